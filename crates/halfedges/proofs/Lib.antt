@@ -1,0 +1,4 @@
+pub mod Told
+pub mod Growth
+pub mod FirstLevels
+pub mod Questions

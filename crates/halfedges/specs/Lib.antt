@@ -1,0 +1,4 @@
+pub mod Cage
+pub mod Refusals
+pub mod Counts
+pub mod Corners
