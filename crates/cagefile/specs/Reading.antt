@@ -1,0 +1,116 @@
+-- Document 01, "The cage file": reading.
+use Prim.Native.Nat.{ℕ, _+_, _-_, _*_, _%_}
+use mathlib.Core.Bool.{Bool, cond, not, _||_}
+use mathlib.Core.List.{List, [], _∷_, _++_}
+use lib.Dec.{eqb, ltb}
+use lib.IntN.{ℤ, pos, negsuc}
+use lib.ListN.{length, getD, take}
+use Rattle.laws.specs.Below.{tabulate}
+use Rattle.halfedges.specs.Cage.{marker}
+use Rattle.halfedges.specs.Refusals.{Verdict, SHAPE, LIMIT, SHORT, FIELD, EXTRA, given, short, first, Said, said, filled}
+use Rattle.halfedges.specs.Counts.{aboveLimit}
+use Rattle.cagefile.specs.Fields.{noTwin, Head, opening, heads}
+
+-- the number in two bytes, and in four
+abbrev pub u16At : List ℕ → ℕ → ℕ
+u16At f at = getD f at 0 + 256 * getD f (at + 1) 0
+
+abbrev pub u32At : List ℕ → ℕ → ℕ
+u32At f at = u16At f at + 65536 * u16At f (at + 2)
+
+-- a number as a twin: "Only 65535 in the twin payload becomes the marker"
+abbrev pub asTwin : ℕ → ℕ
+asTwin n = cond (eqb n noTwin) marker n
+
+-- two's complement read back
+abbrev pub signed : ℕ → ℤ
+signed n = cond (ltb n 2147483648) (pos n) (negsuc (4294967295 - n))
+
+-- where the field after this one has its head
+abbrev pub past : ℕ → Head → ℕ
+past at h = at + 3 + h .size
+
+-- "head cut short is 10; tag or length wrong is 11; payload cut short is 10", at the head's offset
+unfoldable pub fieldChecks : List ℕ → ℕ → Head → List Verdict
+fieldChecks f at h =
+    given (ltb (length f) (at + 3)) (SHORT at)
+    ∷ given (not (eqb (getD f at 0) (h .tag)) || not (eqb (u16At f (at + 1)) (h .size))) (FIELD at)
+    ∷ given (ltb (length f) (past at h)) (SHORT at)
+    ∷ []
+
+-- fields one after another; "After the end field, 12"
+unfoldable pub fieldsChecks : List ℕ → ℕ → List Head → List Verdict
+fieldsChecks f at [] = given (ltb at (length f)) (EXTRA at) ∷ []
+fieldsChecks f at (h ∷ hs) = fieldChecks f at h ++ fieldsChecks f (past at h) hs
+
+-- form, H and V as the first payload has them
+abbrev pub formIn : List ℕ → ℕ
+formIn f = u16At f 3
+
+abbrev pub HIn : List ℕ → ℕ
+HIn f = u16At f 5
+
+abbrev pub VIn : List ℕ → ℕ
+VIn f = u16At f 7
+
+-- "form not 1 is 11 at offset 0, then H is 0 or no multiple of 3 is 1, then limits are 2"
+unfoldable pub openingChecks : List ℕ → List Verdict
+openingChecks f =
+    given (not (eqb (formIn f) 1)) (FIELD 0)
+    ∷ given (eqb (HIn f) 0 || not (eqb (HIn f % 3) 0)) SHAPE
+    ∷ given (aboveLimit (HIn f) (VIn f) 0) LIMIT
+    ∷ []
+
+-- "Reading goes front to back"; "Then 9"
+unfoldable pub readVerdict : List ℕ → List ℕ → List ℕ → List ℕ → List ℤ → Verdict
+readVerdict f lentTwin lentVert lentEdge lentPoints =
+    first
+    (fieldChecks f 0 opening
+    ++ (openingChecks f
+    ++ (fieldsChecks f (past 0 opening) (heads (HIn f) (VIn f))
+    ++ (short 1 (HIn f) (length lentTwin)
+    ∷ short 2 (HIn f) (length lentVert)
+    ∷ short 3 (HIn f) (length lentEdge)
+    ∷ short 4 (3 * VIn f) (length lentPoints)
+    ∷ []))))
+
+-- where the payload of the field after hs starts
+unfoldable pub payloadAt : ℕ → List Head → ℕ
+payloadAt at [] = at + 3
+payloadAt at (h ∷ hs) = payloadAt (past at h) hs
+
+-- the payload of the kth field after the first
+abbrev pub payload : List ℕ → ℕ → ℕ
+payload f k = payloadAt (past 0 opening) (take k (heads (HIn f) (VIn f)))
+
+-- the numbers of a payload; "every other number is taken as it stands"
+unfoldable pub twinsIn : List ℕ → List ℕ
+twinsIn f = tabulate (HIn f) (λ h. asTwin (u16At f (payload f 0 + 2 * h)))
+
+unfoldable pub vertsIn : List ℕ → List ℕ
+vertsIn f = tabulate (HIn f) (λ h. u16At f (payload f 1 + 2 * h))
+
+unfoldable pub edgesIn : List ℕ → List ℕ
+edgesIn f = tabulate (HIn f) (λ h. u16At f (payload f 2 + 2 * h))
+
+unfoldable pub pointsIn : List ℕ → List ℤ
+pointsIn f = tabulate (3 * VIn f) (λ i. signed (u32At f (payload f 3 + 4 * i)))
+
+pub record Read : Type 0 where
+  pub answer : Said (List ℕ)
+  pub twin : List ℕ
+  pub vert : List ℕ
+  pub edge : List ℕ
+  pub points : List ℤ
+
+-- "reading returns H and V"; "Cells of the lent tables past H, or past 3V in the points, are untouched"
+unfoldable pub readFile : List ℕ → List ℕ → List ℕ → List ℕ → List ℤ → Read
+readFile f lentTwin lentVert lentEdge lentPoints =
+    let verdict = readVerdict f lentTwin lentVert lentEdge lentPoints in
+    record {
+      answer = said verdict (HIn f ∷ VIn f ∷ []) (0 ∷ 0 ∷ []);
+      twin = filled verdict (twinsIn f) lentTwin;
+      vert = filled verdict (vertsIn f) lentVert;
+      edge = filled verdict (edgesIn f) lentEdge;
+      points = filled verdict (pointsIn f) lentPoints;
+    }

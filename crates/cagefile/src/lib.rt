@@ -1,0 +1,1 @@
+// The cage file: reading and writing. Definitions in specs/; the code comes to them.

@@ -1,0 +1,100 @@
+-- Document 01, "Cages to try": P1 to P10, one table and one statement (`as-document-01-says`), computed from the definitions.
+use Prim.Native.Nat.{ℕ}
+use mathlib.Core.Path.{_≡_, refl}
+use mathlib.Core.List.{List, [], _∷_, _++_, map}
+use lib.IntN.{ℤ, pos, negℤ}
+use lib.ListN.{drop, take, replicate}
+use Rattle.halfedges.specs.declared.table.Levels.{Levels}
+use Rattle.halfedges.specs.Cage.{NEXT, PREV, marker, cell, above, E, B}
+use Rattle.halfedges.specs.Refusals.{given, givenAt, short, first, Said, said, filled}
+use Rattle.halfedges.specs.Counts.{countsAt, seven, levels, countShape, aboveLimit, countQuestion}
+use Rattle.connectivity.specs.Tables.{Tables}
+use Rattle.connectivity.specs.Rules.{misshapen, badTwin, badVertex, unused, stranger, badEdge}
+use Rattle.connectivity.specs.Fans.{met, joined, notOneFan}
+use Rattle.connectivity.specs.NextLevel.{rows, newTwin, newEdge, newVert, nextTwins, nextEdges, nextVerts, level}
+use Rattle.connectivity.specs.Operations.{rules, returned}
+use Rattle.rounding.specs.Rounding.{round}
+use Rattle.points.specs.PointRules.{E1, E2, V2, V3}
+use Rattle.points.specs.NextPoints.{corners, spokeEnds, creaseEnds, vertexPoint, edgePoint, newPoint, nextPoints, levelPoints}
+use Rattle.points.specs.Operations.{outOfRange, cageChecks, checkCage, refineVerdict, Refined, refineCage}
+
+-- ---- the cages
+
+-- "M for the marker"
+abbrev M : ℕ
+M = marker
+
+abbrev triangle : Tables
+triangle = record { twin = M ∷ M ∷ M ∷ []; vert = 0 ∷ 1 ∷ 2 ∷ []; edge = 0 ∷ 1 ∷ 2 ∷ [] }
+
+abbrev pillow : Tables
+pillow = record { twin = 5 ∷ 4 ∷ 3 ∷ 2 ∷ 1 ∷ 0 ∷ []; vert = 0 ∷ 1 ∷ 2 ∷ 0 ∷ 2 ∷ 1 ∷ []; edge = 0 ∷ 1 ∷ 2 ∷ 2 ∷ 1 ∷ 0 ∷ [] }
+
+abbrev twoTriangles : Tables
+twoTriangles =
+    record { twin = M ∷ M ∷ M ∷ M ∷ M ∷ M ∷ []; vert = 0 ∷ 1 ∷ 2 ∷ 0 ∷ 3 ∷ 4 ∷ []; edge = 0 ∷ 1 ∷ 2 ∷ 3 ∷ 4 ∷ 5 ∷ [] }
+
+abbrev ownTwin : Tables
+ownTwin = record { twin = 0 ∷ 4 ∷ 3 ∷ 2 ∷ 1 ∷ 0 ∷ []; vert = pillow .vert; edge = pillow .edge }
+
+-- the points (0,0,0) (n,0,0) (0,n,0)
+abbrev corner : ℕ → List ℤ
+corner n = map pos (0 ∷ 0 ∷ 0 ∷ n ∷ 0 ∷ 0 ∷ 0 ∷ n ∷ 0 ∷ [])
+
+-- ---- the questions
+
+-- a cage of H halfedges and V vertices refined to depth 1, in lent tables of h and v cells that hold sevens
+abbrev refined : Tables → List ℤ → ℕ → ℕ → Refined
+refined c points h v = refineCage c points 1 (replicate h 7) (replicate h 7) (replicate h 7) (replicate v (pos 7))
+
+abbrev triangleRefined : Refined
+triangleRefined = refined triangle (corner 800) 15 27
+
+abbrev pillowRefined : Refined
+pillowRefined = refined pillow (corner 16) 30 27
+
+-- number and place of an answer
+abbrev numbersOf : {A : Type 0} → Said A → List ℤ
+numbersOf s = pos (s .verdict .number) ∷ pos (s .verdict .place) ∷ []
+
+abbrev roomOf : Levels → List ℤ
+roomOf l = pos (l .«halfedge_room») ∷ pos (l .«vertex_room») ∷ []
+
+-- ---- the table
+
+-- what the definitions give, beside what document 01 says
+pub record Case : Type 0 where
+  pub gives : List ℤ
+  pub says : List ℤ
+
+abbrev P : List ℤ → List ℤ → Case
+P given said = record { gives = given; says = said }
+
+abbrev pub cases : List Case
+cases =
+    -- P1 to P4: the triangle's level 1
+    P (map pos (drop 3 (triangleRefined .twin))) (map pos (M ∷ 9 ∷ M ∷ M ∷ 10 ∷ M ∷ M ∷ 11 ∷ M ∷ 1 ∷ 4 ∷ 7 ∷ []))
+    ∷ P (map pos (drop 3 (triangleRefined .edge))) (map pos (0 ∷ 6 ∷ 5 ∷ 2 ∷ 7 ∷ 1 ∷ 4 ∷ 8 ∷ 3 ∷ 6 ∷ 7 ∷ 8 ∷ []))
+    ∷ P (map pos (drop 3 (triangleRefined .vert))) (map pos (0 ∷ 3 ∷ 5 ∷ 1 ∷ 4 ∷ 3 ∷ 2 ∷ 5 ∷ 4 ∷ 5 ∷ 3 ∷ 4 ∷ []))
+    ∷ P (drop 9 (triangleRefined .points))
+    (map pos (100 ∷ 100 ∷ 0 ∷ 600 ∷ 100 ∷ 0 ∷ 100 ∷ 600 ∷ 0 ∷ 400 ∷ 0 ∷ 0 ∷ 400 ∷ 400 ∷ 0 ∷ 0 ∷ 400 ∷ 0 ∷ []))
+    -- P5: the pillow is accepted; TWIN(0), EDGE(0), EDGE(11) and EDGE(15) of its level 1
+    ∷ P (numbersOf (checkCage pillow (corner 16)) ++ map pos (cell (drop 6 (pillowRefined .twin)) 0 ∷ map (cell (drop 6 (pillowRefined .edge))) (0 ∷ 11 ∷ 15 ∷ [])))
+    (map pos (0 ∷ 0 ∷ 11 ∷ 1 ∷ 1 ∷ 0 ∷ []))
+    -- P6: vertex 0 and edge 0's point
+    ∷ P (take 3 (drop 9 (pillowRefined .points)) ++ take 3 (drop 18 (pillowRefined .points))) (map pos (3 ∷ 3 ∷ 0 ∷ 6 ∷ 4 ∷ 0 ∷ []))
+    -- P7: refusal 7 at 0
+    ∷ P (numbersOf (checkCage twoTriangles (replicate 15 (pos 0)))) (map pos (7 ∷ 0 ∷ []))
+    -- P8: the room for H 12, E 6, V 4, depth 2
+    ∷ P (roomOf (countQuestion (record { halfedges = 12; edges = 6; vertices = 4 }) 2 .values)) (map pos (252 ∷ 48 ∷ []))
+    -- P9: refusal 3 at 0
+    ∷ P (numbersOf (checkCage ownTwin (corner 16))) (map pos (3 ∷ 0 ∷ []))
+    -- P10: 12/8, −12/8 and −13/8
+    ∷ P (round (pos 12) 8 ∷ round (negℤ (pos 12)) 8 ∷ round (negℤ (pos 13)) 8 ∷ []) (pos 2 ∷ negℤ (pos 1) ∷ negℤ (pos 2) ∷ [])
+    ∷ []
+
+-- ---- the statement
+
+pub as-document-01-says : map (λ c. c .gives) cases ≡ map (λ c. c .says) cases
+unfolding NEXT PREV above E B given givenAt short first said filled countsAt seven levels countShape aboveLimit countQuestion misshapen badTwin badVertex unused stranger badEdge met joined notOneFan rows newTwin newEdge newVert nextTwins nextEdges nextVerts level rules returned round E1 E2 V2 V3 corners spokeEnds creaseEnds vertexPoint edgePoint newPoint nextPoints levelPoints outOfRange cageChecks checkCage refineVerdict refineCage
+as-document-01-says = refl

@@ -1,0 +1,3 @@
+pub mod PointRules
+pub mod NextPoints
+pub mod Operations

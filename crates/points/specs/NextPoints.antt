@@ -1,0 +1,80 @@
+-- Document 01, "Points": a level's points from those of the level before.
+use Prim.Native.Nat.{ℕ, zero, suc, _+_, _-_, _*_, _/_, _%_}
+use mathlib.Core.Bool.{Bool, cond, _&&_}
+use mathlib.Core.List.{List, [], _∷_, _++_, map}
+use lib.Dec.{eqb, ltb}
+use lib.IntN.{ℤ, pos, _+ℤ_}
+use lib.ListN.{length, getD}
+use Rattle.halfedges.specs.declared.table.HalfedgeTable.{HalfedgeTable}
+use Rattle.laws.specs.Below.{tabulate, select, lowest}
+use Rattle.halfedges.specs.Cage.{NEXT, PREV, cell, border}
+use Rattle.halfedges.specs.Counts.{countsAt}
+use Rattle.connectivity.specs.Tables.{Tables, leaves}
+use Rattle.connectivity.specs.NextLevel.{level}
+use Rattle.points.specs.PointRules.{E1, E2, V2, V3}
+
+-- "x, y, z per vertex": coordinate k of vertex v
+abbrev pub coordinate : List ℤ → ℕ → ℕ → ℤ
+coordinate points k v = getD points (3 * v + k) (pos 0)
+
+-- the sum of a list
+abbrev pub total : List ℤ → ℤ
+total [] = pos 0
+total (z ∷ zs) = z +ℤ total zs
+
+-- the corners at v
+unfoldable pub corners : List ℕ → ℕ → List ℕ
+corners vert v = select (length vert) (leaves vert v)
+
+-- where halfedge h ends
+abbrev pub far : List ℕ → ℕ → ℕ
+far vert h = cell vert (NEXT h)
+
+-- "its n spokes' far ends": "a far end reached by two spokes counts twice"
+unfoldable pub spokeEnds : List ℕ → ℕ → List ℕ
+spokeEnds vert v = map (far vert) (corners vert v)
+
+-- "borders treated as creases": h's edge is a crease
+abbrev pub crease : List ℕ → ℕ → Bool
+crease twin h = border twin h
+
+-- "the far ends of its two border edges, which may be the same vertex": of creases that leave v, and of border edges that end there
+unfoldable pub creaseEnds : List ℕ → List ℕ → ℕ → List ℕ
+creaseEnds twin vert v =
+    map (far vert) (select (length vert) (λ h. crease twin h && leaves vert v h))
+    ++ map (cell vert) (select (length vert) (λ h. border twin h && eqb (far vert h) v))
+
+-- the new place of vertex v: V.3 where it has no crease, else V.2
+unfoldable pub vertexPoint : List ℕ → List ℕ → List ℤ → ℕ → ℕ → ℤ
+vertexPoint twin vert points v k =
+    cond (eqb (length (creaseEnds twin vert v)) 0)
+    (V3 (length (corners vert v)) (coordinate points k v) (total (map (coordinate points k) (spokeEnds vert v))))
+    (V2 (coordinate points k v) (total (map (coordinate points k) (creaseEnds twin vert v))))
+
+-- the point of h's edge, with ends a, b and opposite corners c, d: E.1 where it is a crease, else E.2
+unfoldable pub edgePoint : List ℕ → List ℕ → List ℤ → ℕ → ℕ → ℤ
+edgePoint twin vert points h k =
+    let a = coordinate points k (cell vert h) in
+    let b = coordinate points k (far vert h) in
+    let c = coordinate points k (cell vert (PREV h)) in
+    let d = coordinate points k (cell vert (PREV (cell twin h))) in
+    cond (crease twin h) (E1 a b) (E2 a b c d)
+
+-- the lowest halfedge that carries edge e
+abbrev pub carrier : List ℕ → ℕ → ℕ
+carrier edge e = lowest (length edge) (λ h. eqb (cell edge h) e)
+
+-- "V becomes V+E": the old vertices, then a vertex for each edge
+unfoldable pub newPoint : HalfedgeTable → Tables → List ℤ → ℕ → ℕ → ℤ
+newPoint t c points u k =
+    cond (ltb u (t .vertices))
+    (vertexPoint (c .twin) (c .vert) points u k)
+    (edgePoint (c .twin) (c .vert) points (carrier (c .edge) (u - t .vertices)) k)
+
+unfoldable pub nextPoints : HalfedgeTable → Tables → List ℤ → List ℤ
+nextPoints t c points = tabulate (3 * (t .vertices + t .edges)) (λ i. newPoint t c points (i / 3) (i % 3))
+
+-- the points of level d of a cage with counts t, each rounded "once, per level"
+unfoldable pub levelPoints : HalfedgeTable → Tables → List ℤ → ℕ → List ℤ
+levelPoints t c points zero = points
+levelPoints t c points (suc d) = nextPoints (countsAt t d) (level t c d) (levelPoints t c points d)

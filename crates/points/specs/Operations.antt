@@ -1,0 +1,71 @@
+-- What the cage check and refining answer, and what they leave in every lent table.
+use Prim.Native.Nat.{ℕ, suc, _*_, _/_, _%_}
+use mathlib.Core.Bool.{Bool, not, _||_}
+use mathlib.Core.List.{List, [], _∷_, _++_}
+use lib.Dec.{eqb, ltb}
+use lib.IntN.{ℤ, pos, natAbs}
+use lib.ListN.{length, getD, replicate}
+use Rattle.halfedges.specs.declared.table.HalfedgeTable.{HalfedgeTable}
+use Rattle.halfedges.specs.declared.table.Levels.{Levels}
+use Rattle.laws.specs.Below.{endToEnd}
+use Rattle.halfedges.specs.Refusals.{Verdict, SHAPE, LIMIT, POINT, given, givenAt, short, first, Said, said, filled}
+use Rattle.halfedges.specs.Counts.{noLevels, roomH, roomV, aboveLimit, countQuestion}
+use Rattle.connectivity.specs.Tables.{Tables, countsOf}
+use Rattle.connectivity.specs.Rules.{misshapen}
+use Rattle.connectivity.specs.Operations.{rules, returned, levelsOf}
+use Rattle.points.specs.NextPoints.{levelPoints}
+
+-- "V is its length over three"
+abbrev pub vertices : List ℤ → ℕ
+vertices points = length points / 3
+
+-- "each coordinate from −1,048,576 to 1,048,576"
+abbrev pub most-coordinate : ℕ
+most-coordinate = 1048576
+
+-- 8 "a coordinate is out of range"
+unfoldable pub outOfRange : List ℤ → ℕ → Bool
+outOfRange points i = ltb most-coordinate (natAbs (getD points i (pos 0)))
+
+-- rules 1 to 8 in number order
+unfoldable pub cageChecks : Tables → List ℤ → ℕ → List Verdict
+cageChecks c points depth =
+    given (misshapen c || not (eqb (length points % 3) 0)) SHAPE
+    ∷ given (aboveLimit (length (c .twin)) (vertices points) depth) LIMIT
+    ∷ (rules c (vertices points) ++ (givenAt (length points) (outOfRange points) POINT ∷ []))
+
+-- "The cage check has no depth and gives 1 to 8"
+unfoldable pub checkCage : Tables → List ℤ → Said (List ℕ)
+checkCage c points = said (first (cageChecks c points 0)) (returned c (vertices points)) (replicate 5 0)
+
+-- "Refining gives 1 to 9"; "Room is the sum of H in each of the first three, three times the sum of V in the points"
+unfoldable pub refineVerdict : Tables → List ℤ → ℕ → List ℕ → List ℕ → List ℕ → List ℤ → Verdict
+refineVerdict c points depth lentTwin lentVert lentEdge lentPoints =
+    let t = countsOf c (vertices points) in
+    first
+    (cageChecks c points depth
+    ++ (short 1 (roomH t depth) (length lentTwin)
+    ∷ short 2 (roomH t depth) (length lentVert)
+    ∷ short 3 (roomH t depth) (length lentEdge)
+    ∷ short 4 (3 * roomV t depth) (length lentPoints)
+    ∷ []))
+
+pub record Refined : Type 0 where
+  pub answer : Said Levels
+  pub twin : List ℕ
+  pub vert : List ℕ
+  pub edge : List ℕ
+  pub points : List ℤ
+
+-- "Refining writes levels 0 to D end to end in the four lent tables"
+unfoldable pub refineCage : Tables → List ℤ → ℕ → List ℕ → List ℕ → List ℕ → List ℤ → Refined
+refineCage c points depth lentTwin lentVert lentEdge lentPoints =
+    let t = countsOf c (vertices points) in
+    let verdict = refineVerdict c points depth lentTwin lentVert lentEdge lentPoints in
+    record {
+      answer = said verdict (countQuestion t depth .values) noLevels;
+      twin = filled verdict (levelsOf (λ l. l .twin) t c depth) lentTwin;
+      vert = filled verdict (levelsOf (λ l. l .vert) t c depth) lentVert;
+      edge = filled verdict (levelsOf (λ l. l .edge) t c depth) lentEdge;
+      points = filled verdict (endToEnd (suc depth) (levelPoints t c points)) lentPoints;
+    }
