@@ -9,6 +9,8 @@ use Rattle.laws.specs.Below.{tabulate}
 use Rattle.halfedges.specs.Cage.{marker}
 use Rattle.halfedges.specs.Refusals.{Verdict, SHAPE, LIMIT, SHORT, FIELD, EXTRA, given, short, first, Said, said, filled}
 use Rattle.halfedges.specs.Counts.{aboveLimit}
+use Rattle.connectivity.specs.Tables.{Tables, tables}
+use Rattle.connectivity.specs.Operations.{shortTables, filledTables}
 use Rattle.cagefile.specs.Fields.{noTwin, Head, opening, heads}
 
 -- the number in two bytes, and in four
@@ -62,17 +64,13 @@ openingChecks f =
     ∷ []
 
 -- "Reading goes front to back"; "Then 9"
-unfoldable pub readVerdict : List ℕ → List ℕ → List ℕ → List ℕ → List ℤ → Verdict
-readVerdict f lentTwin lentVert lentEdge lentPoints =
+unfoldable pub readVerdict : List ℕ → Tables → List ℤ → Verdict
+readVerdict f lent lentPoints =
     first
     (fieldChecks f 0 opening
     ++ (openingChecks f
     ++ (fieldsChecks f (past 0 opening) (heads (HIn f) (VIn f))
-    ++ (short 1 (HIn f) (length lentTwin)
-    ∷ short 2 (HIn f) (length lentVert)
-    ∷ short 3 (HIn f) (length lentEdge)
-    ∷ short 4 (3 * VIn f) (length lentPoints)
-    ∷ []))))
+    ++ (shortTables (HIn f) lent ++ (short 4 (3 * VIn f) (length lentPoints) ∷ [])))))
 
 -- where the payload of the field after hs starts
 unfoldable pub payloadAt : ℕ → List Head → ℕ
@@ -98,19 +96,15 @@ pointsIn f = tabulate (3 * VIn f) (λ i. signed (u32At f (payload f 3 + 4 * i)))
 
 pub record Read : Type 0 where
   pub answer : Said (List ℕ)
-  pub twin : List ℕ
-  pub vert : List ℕ
-  pub edge : List ℕ
+  pub lent : Tables
   pub points : List ℤ
 
 -- "reading returns H and V"; "Cells of the lent tables past H, or past 3V in the points, are untouched"
-unfoldable pub readFile : List ℕ → List ℕ → List ℕ → List ℕ → List ℤ → Read
-readFile f lentTwin lentVert lentEdge lentPoints =
-    let verdict = readVerdict f lentTwin lentVert lentEdge lentPoints in
+unfoldable pub readFile : List ℕ → Tables → List ℤ → Read
+readFile f lent lentPoints =
+    let verdict = readVerdict f lent lentPoints in
     record {
       answer = said verdict (HIn f ∷ VIn f ∷ []) (0 ∷ 0 ∷ []);
-      twin = filled verdict (twinsIn f) lentTwin;
-      vert = filled verdict (vertsIn f) lentVert;
-      edge = filled verdict (edgesIn f) lentEdge;
+      lent = filledTables verdict (tables (twinsIn f) (vertsIn f) (edgesIn f)) lent;
       points = filled verdict (pointsIn f) lentPoints;
     }

@@ -8,11 +8,11 @@ use Rattle.halfedges.specs.declared.table.Levels.{Levels}
 use Rattle.halfedges.specs.Cage.{NEXT, PREV, marker, cell, above, E, B}
 use Rattle.halfedges.specs.Refusals.{given, givenAt, short, first, Said, said, filled}
 use Rattle.halfedges.specs.Counts.{countsAt, seven, levels, countShape, aboveLimit, countQuestion}
-use Rattle.connectivity.specs.Tables.{Tables}
+use Rattle.connectivity.specs.Tables.{Tables, tables}
 use Rattle.connectivity.specs.Rules.{misshapen, badTwin, badVertex, unused, stranger, badEdge}
 use Rattle.connectivity.specs.Fans.{met, joined, notOneFan}
 use Rattle.connectivity.specs.NextLevel.{rows, newTwin, newEdge, newVert, nextTwins, nextEdges, nextVerts, level}
-use Rattle.connectivity.specs.Operations.{rules, returned}
+use Rattle.connectivity.specs.Operations.{rules, returned, shortTables, filledTables, levelsEndToEnd}
 use Rattle.rounding.specs.Rounding.{round}
 use Rattle.points.specs.PointRules.{E1, E2, V2, V3}
 use Rattle.points.specs.NextPoints.{corners, spokeEnds, creaseEnds, vertexPoint, edgePoint, newPoint, nextPoints, levelPoints}
@@ -45,7 +45,7 @@ corner n = map pos (0 ∷ 0 ∷ 0 ∷ n ∷ 0 ∷ 0 ∷ 0 ∷ n ∷ 0 ∷ [])
 
 -- a cage of H halfedges and V vertices refined to depth 1, in lent tables of h and v cells that hold sevens
 abbrev refined : Tables → List ℤ → ℕ → ℕ → Refined
-refined c points h v = refineCage c points 1 (replicate h 7) (replicate h 7) (replicate h 7) (replicate v (pos 7))
+refined c points h v = refineCage c points 1 (tables (replicate h 7) (replicate h 7) (replicate h 7)) (replicate v (pos 7))
 
 abbrev triangleRefined : Refined
 triangleRefined = refined triangle (corner 800) 15 27
@@ -73,13 +73,13 @@ P given said = record { gives = given; says = said }
 abbrev pub cases : List Case
 cases =
     -- P1 to P4: the triangle's level 1
-    P (map pos (drop 3 (triangleRefined .twin))) (map pos (M ∷ 9 ∷ M ∷ M ∷ 10 ∷ M ∷ M ∷ 11 ∷ M ∷ 1 ∷ 4 ∷ 7 ∷ []))
-    ∷ P (map pos (drop 3 (triangleRefined .edge))) (map pos (0 ∷ 6 ∷ 5 ∷ 2 ∷ 7 ∷ 1 ∷ 4 ∷ 8 ∷ 3 ∷ 6 ∷ 7 ∷ 8 ∷ []))
-    ∷ P (map pos (drop 3 (triangleRefined .vert))) (map pos (0 ∷ 3 ∷ 5 ∷ 1 ∷ 4 ∷ 3 ∷ 2 ∷ 5 ∷ 4 ∷ 5 ∷ 3 ∷ 4 ∷ []))
+    P (map pos (drop 3 (triangleRefined .lent .twin))) (map pos (M ∷ 9 ∷ M ∷ M ∷ 10 ∷ M ∷ M ∷ 11 ∷ M ∷ 1 ∷ 4 ∷ 7 ∷ []))
+    ∷ P (map pos (drop 3 (triangleRefined .lent .edge))) (map pos (0 ∷ 6 ∷ 5 ∷ 2 ∷ 7 ∷ 1 ∷ 4 ∷ 8 ∷ 3 ∷ 6 ∷ 7 ∷ 8 ∷ []))
+    ∷ P (map pos (drop 3 (triangleRefined .lent .vert))) (map pos (0 ∷ 3 ∷ 5 ∷ 1 ∷ 4 ∷ 3 ∷ 2 ∷ 5 ∷ 4 ∷ 5 ∷ 3 ∷ 4 ∷ []))
     ∷ P (drop 9 (triangleRefined .points))
     (map pos (100 ∷ 100 ∷ 0 ∷ 600 ∷ 100 ∷ 0 ∷ 100 ∷ 600 ∷ 0 ∷ 400 ∷ 0 ∷ 0 ∷ 400 ∷ 400 ∷ 0 ∷ 0 ∷ 400 ∷ 0 ∷ []))
     -- P5: the pillow is accepted; TWIN(0), EDGE(0), EDGE(11) and EDGE(15) of its level 1
-    ∷ P (numbersOf (checkCage pillow (corner 16)) ++ map pos (cell (drop 6 (pillowRefined .twin)) 0 ∷ map (cell (drop 6 (pillowRefined .edge))) (0 ∷ 11 ∷ 15 ∷ [])))
+    ∷ P (numbersOf (checkCage pillow (corner 16)) ++ map pos (cell (drop 6 (pillowRefined .lent .twin)) 0 ∷ map (cell (drop 6 (pillowRefined .lent .edge))) (0 ∷ 11 ∷ 15 ∷ [])))
     (map pos (0 ∷ 0 ∷ 11 ∷ 1 ∷ 1 ∷ 0 ∷ []))
     -- P6: vertex 0 and edge 0's point
     ∷ P (take 3 (drop 9 (pillowRefined .points)) ++ take 3 (drop 18 (pillowRefined .points))) (map pos (3 ∷ 3 ∷ 0 ∷ 6 ∷ 4 ∷ 0 ∷ []))
@@ -96,5 +96,5 @@ cases =
 -- ---- the statement
 
 pub as-document-01-says : map (λ c. c .gives) cases ≡ map (λ c. c .says) cases
-unfolding NEXT PREV above E B given givenAt short first said filled countsAt seven levels countShape aboveLimit countQuestion misshapen badTwin badVertex unused stranger badEdge met joined notOneFan rows newTwin newEdge newVert nextTwins nextEdges nextVerts level rules returned round E1 E2 V2 V3 corners spokeEnds creaseEnds vertexPoint edgePoint newPoint nextPoints levelPoints outOfRange cageChecks checkCage refineVerdict refineCage
+unfolding NEXT PREV above E B given givenAt short first said filled countsAt seven levels countShape aboveLimit countQuestion misshapen badTwin badVertex unused stranger badEdge met joined notOneFan rows newTwin newEdge newVert nextTwins nextEdges nextVerts level rules returned shortTables filledTables levelsEndToEnd round E1 E2 V2 V3 corners spokeEnds creaseEnds vertexPoint edgePoint newPoint nextPoints levelPoints outOfRange cageChecks checkCage refineVerdict refineCage
 as-document-01-says = refl

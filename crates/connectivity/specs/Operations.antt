@@ -8,7 +8,7 @@ use Rattle.laws.specs.Below.{endToEnd}
 use Rattle.halfedges.specs.Cage.{F, E, B}
 use Rattle.halfedges.specs.Refusals.{Verdict, SHAPE, LIMIT, TWIN, VERTEX, UNUSED, EDGE, FAN, given, givenAt, short, first, Said, said, filled}
 use Rattle.halfedges.specs.Counts.{noLevels, roomH, aboveLimit, countQuestion}
-use Rattle.connectivity.specs.Tables.{Tables, countsOf}
+use Rattle.connectivity.specs.Tables.{Tables, tables, countsOf}
 use Rattle.connectivity.specs.Rules.{misshapen, badTwin, badVertex, unused, badEdge}
 use Rattle.connectivity.specs.Fans.{notOneFan}
 use Rattle.connectivity.specs.NextLevel.{level}
@@ -35,32 +35,37 @@ returned c v = length (c .twin) ∷ E (c .twin) ∷ F (length (c .twin)) ∷ v �
 unfoldable pub checkTables : Tables → ℕ → Said (List ℕ)
 checkTables c v = said (first (tableChecks c v 0)) (returned c v) (replicate 5 0)
 
--- levels 0 to the depth, end to end in a table
-abbrev pub levelsOf : (Tables → List ℕ) → HalfedgeTable → Tables → ℕ → List ℕ
-levelsOf table t c depth = endToEnd (suc depth) (λ d. table (level t c d))
+-- 9 "first short one: 1 twin, 2 vert, 3 edge"
+unfoldable pub shortTables : ℕ → Tables → List Verdict
+shortTables room lent = short 1 room (length (lent .twin)) ∷ short 2 room (length (lent .vert)) ∷ short 3 room (length (lent .edge)) ∷ []
 
--- 1 to 7, then 9 for each lent table
-unfoldable pub refineTablesVerdict : Tables → ℕ → ℕ → List ℕ → List ℕ → List ℕ → Verdict
-refineTablesVerdict c v depth twin vert edge =
-    let room = roomH (countsOf c v) depth in
-    first
-    (tableChecks c v depth
-    ++ (short 1 room (length twin) ∷ short 2 room (length vert) ∷ short 3 room (length edge) ∷ []))
+-- three lent tables, of which each once done holds its cells
+unfoldable pub filledTables : Verdict → Tables → Tables → Tables
+filledTables verdict cells lent =
+    tables (filled verdict (cells .twin) (lent .twin)) (filled verdict (cells .vert) (lent .vert)) (filled verdict (cells .edge) (lent .edge))
+
+-- "levels 0 to D end to end" in each table
+unfoldable pub levelsEndToEnd : HalfedgeTable → Tables → ℕ → Tables
+levelsEndToEnd t c depth =
+    tables
+    (endToEnd (suc depth) (λ d. level t c d .twin))
+    (endToEnd (suc depth) (λ d. level t c d .vert))
+    (endToEnd (suc depth) (λ d. level t c d .edge))
+
+-- refining the tables alone: 1 to 7, then 9 with "the sum of H in each of the first three"
+unfoldable pub refineTablesVerdict : Tables → ℕ → ℕ → Tables → Verdict
+refineTablesVerdict c v depth lent = first (tableChecks c v depth ++ shortTables (roomH (countsOf c v) depth) lent)
 
 pub record RefinedTables : Type 0 where
   pub answer : Said Levels
-  pub twin : List ℕ
-  pub vert : List ℕ
-  pub edge : List ℕ
+  pub lent : Tables
 
--- "Refining writes levels 0 to D end to end"; "Done returns the count question's answer for this cage and depth"
-unfoldable pub refineTables : Tables → ℕ → ℕ → List ℕ → List ℕ → List ℕ → RefinedTables
-refineTables c v depth twin vert edge =
+-- "Done returns the count question's answer for this cage and depth"
+unfoldable pub refineTables : Tables → ℕ → ℕ → Tables → RefinedTables
+refineTables c v depth lent =
     let t = countsOf c v in
-    let verdict = refineTablesVerdict c v depth twin vert edge in
+    let verdict = refineTablesVerdict c v depth lent in
     record {
       answer = said verdict (countQuestion t depth .values) noLevels;
-      twin = filled verdict (levelsOf (λ l. l .twin) t c depth) twin;
-      vert = filled verdict (levelsOf (λ l. l .vert) t c depth) vert;
-      edge = filled verdict (levelsOf (λ l. l .edge) t c depth) edge;
+      lent = filledTables verdict (levelsEndToEnd t c depth) lent;
     }

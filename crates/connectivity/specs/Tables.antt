@@ -13,6 +13,9 @@ pub record Tables : Type 0 where
   pub vert : List ℕ
   pub edge : List ℕ
 
+abbrev pub tables : List ℕ → List ℕ → List ℕ → Tables
+tables twin vert edge = record { twin = twin; vert = vert; edge = edge }
+
 -- H, E and V, where V is handed over
 abbrev pub countsOf : Tables → ℕ → HalfedgeTable
 countsOf c v = record { halfedges = length (c .twin); edges = E (c .twin); vertices = v }

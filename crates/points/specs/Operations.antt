@@ -5,14 +5,13 @@ use mathlib.Core.List.{List, [], _∷_, _++_}
 use lib.Dec.{eqb, ltb}
 use lib.IntN.{ℤ, pos, natAbs}
 use lib.ListN.{length, getD, replicate}
-use Rattle.halfedges.specs.declared.table.HalfedgeTable.{HalfedgeTable}
 use Rattle.halfedges.specs.declared.table.Levels.{Levels}
 use Rattle.laws.specs.Below.{endToEnd}
 use Rattle.halfedges.specs.Refusals.{Verdict, SHAPE, LIMIT, POINT, given, givenAt, short, first, Said, said, filled}
 use Rattle.halfedges.specs.Counts.{noLevels, roomH, roomV, aboveLimit, countQuestion}
 use Rattle.connectivity.specs.Tables.{Tables, countsOf}
 use Rattle.connectivity.specs.Rules.{misshapen}
-use Rattle.connectivity.specs.Operations.{rules, returned, levelsOf}
+use Rattle.connectivity.specs.Operations.{rules, returned, shortTables, filledTables, levelsEndToEnd}
 use Rattle.points.specs.NextPoints.{levelPoints}
 
 -- "V is its length over three"
@@ -39,33 +38,25 @@ unfoldable pub checkCage : Tables → List ℤ → Said (List ℕ)
 checkCage c points = said (first (cageChecks c points 0)) (returned c (vertices points)) (replicate 5 0)
 
 -- "Refining gives 1 to 9"; "Room is the sum of H in each of the first three, three times the sum of V in the points"
-unfoldable pub refineVerdict : Tables → List ℤ → ℕ → List ℕ → List ℕ → List ℕ → List ℤ → Verdict
-refineVerdict c points depth lentTwin lentVert lentEdge lentPoints =
+unfoldable pub refineVerdict : Tables → List ℤ → ℕ → Tables → List ℤ → Verdict
+refineVerdict c points depth lent lentPoints =
     let t = countsOf c (vertices points) in
     first
     (cageChecks c points depth
-    ++ (short 1 (roomH t depth) (length lentTwin)
-    ∷ short 2 (roomH t depth) (length lentVert)
-    ∷ short 3 (roomH t depth) (length lentEdge)
-    ∷ short 4 (3 * roomV t depth) (length lentPoints)
-    ∷ []))
+    ++ (shortTables (roomH t depth) lent ++ (short 4 (3 * roomV t depth) (length lentPoints) ∷ [])))
 
 pub record Refined : Type 0 where
   pub answer : Said Levels
-  pub twin : List ℕ
-  pub vert : List ℕ
-  pub edge : List ℕ
+  pub lent : Tables
   pub points : List ℤ
 
--- "Refining writes levels 0 to D end to end in the four lent tables"
-unfoldable pub refineCage : Tables → List ℤ → ℕ → List ℕ → List ℕ → List ℕ → List ℤ → Refined
-refineCage c points depth lentTwin lentVert lentEdge lentPoints =
+-- "Refining writes levels 0 to D end to end in the four lent tables"; "Done returns the count question's answer for this cage and depth"
+unfoldable pub refineCage : Tables → List ℤ → ℕ → Tables → List ℤ → Refined
+refineCage c points depth lent lentPoints =
     let t = countsOf c (vertices points) in
-    let verdict = refineVerdict c points depth lentTwin lentVert lentEdge lentPoints in
+    let verdict = refineVerdict c points depth lent lentPoints in
     record {
       answer = said verdict (countQuestion t depth .values) noLevels;
-      twin = filled verdict (levelsOf (λ l. l .twin) t c depth) lentTwin;
-      vert = filled verdict (levelsOf (λ l. l .vert) t c depth) lentVert;
-      edge = filled verdict (levelsOf (λ l. l .edge) t c depth) lentEdge;
+      lent = filledTables verdict (levelsEndToEnd t c depth) lent;
       points = filled verdict (endToEnd (suc depth) (levelPoints t c points)) lentPoints;
     }
