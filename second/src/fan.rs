@@ -1,0 +1,58 @@
+//! Document 01, "Why a cage is sent back", refusal 7: the corners at a vertex
+//! are one fan when links join all halfedges that leave it.
+
+use std::collections::HashMap;
+
+use crate::cage::{previous, Cage};
+
+/// Halfedges in groups that grow together (union-find).
+struct Groups {
+    parent: Vec<usize>,
+}
+
+impl Groups {
+    fn apart(count: usize) -> Groups {
+        Groups {
+            parent: (0..count).collect(),
+        }
+    }
+
+    /// The halfedge that stands for the group of `h`.
+    fn leader(&mut self, mut h: usize) -> usize {
+        while self.parent[h] != h {
+            self.parent[h] = self.parent[self.parent[h]];
+            h = self.parent[h];
+        }
+        h
+    }
+
+    fn join(&mut self, g: usize, h: usize) {
+        let (g, h) = (self.leader(g), self.leader(h));
+        self.parent[g.max(h)] = g.min(h);
+    }
+}
+
+/// The lowest vertex whose corners are more than one fan, in a cage that keeps
+/// the rules 1 to 6.
+pub(crate) fn lowest_vertex_without_one_fan(cage: &Cage) -> Option<usize> {
+    let mut fans = linked_halfedges(cage);
+    let mut fan_at: HashMap<usize, usize> = HashMap::new();
+    cage.halfedges()
+        .filter(|&h| {
+            let fan = fans.leader(h);
+            *fan_at.entry(cage.vert_of(h)).or_insert(fan) != fan
+        })
+        .map(|h| cage.vert_of(h))
+        .min()
+}
+
+/// Each halfedge h joined with TWIN(PREV(h)) where that exists.
+fn linked_halfedges(cage: &Cage) -> Groups {
+    let mut fans = Groups::apart(cage.halfedge_count());
+    for h in cage.halfedges() {
+        if let Some(neighbour) = cage.twin_of(previous(h)) {
+            fans.join(h, neighbour);
+        }
+    }
+    fans
+}

@@ -1,0 +1,23 @@
+//! The independent second program of Ryebadger. It is written from document
+//! 01, the scope of the build, and from nothing else, so that the proved
+//! program can be compared with it.
+//!
+//! Every public function answers for any table, number or bytes.
+
+pub mod cage;
+pub mod check;
+pub mod corners;
+pub mod counts;
+pub mod draw;
+mod fan;
+pub mod file;
+mod level;
+pub mod lister;
+mod points;
+pub mod questions;
+pub mod refine;
+pub mod refusal;
+mod sew;
+mod size;
+pub mod suite;
+pub mod tables;

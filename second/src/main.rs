@@ -1,0 +1,107 @@
+//! The command line of the second program. The level lister of document 01
+//! is `second list`; the other commands are for comparing and trying.
+
+use std::io::{self, Read, Write};
+use std::process::ExitCode;
+
+use second::file::write_cage_file;
+use second::lister::list_levels;
+use second::questions::check::check_numbers;
+use second::questions::{answer_line, answers, check, corners, counts};
+use second::suite::{cage_named, suite, SuiteCage};
+
+const USAGE: &str = "usage: second questions counts|corners|check|check-large \
+    | second answers | second list | second cage NAME | second suite";
+
+fn main() -> ExitCode {
+    let words: Option<Vec<String>> = std::env::args_os()
+        .skip(1)
+        .map(|word| word.into_string().ok())
+        .collect();
+    let words = words.unwrap_or_default();
+    let words: Vec<&str> = words.iter().map(String::as_str).collect();
+    match output(&words).and_then(|bytes| print(&bytes)) {
+        Ok(()) => ExitCode::SUCCESS,
+        Err(trouble) => trouble.report(),
+    }
+}
+
+/// Why nothing was printed.
+enum Trouble {
+    Usage,
+    Message(String),
+}
+
+impl Trouble {
+    fn report(&self) -> ExitCode {
+        let (line, status) = match self {
+            Trouble::Usage => (USAGE, 2),
+            Trouble::Message(message) => (message.as_str(), 1),
+        };
+        // Without a standard error there is nowhere left to report to.
+        let _ = writeln!(io::stderr(), "{line}");
+        ExitCode::from(status)
+    }
+}
+
+impl From<io::Error> for Trouble {
+    fn from(error: io::Error) -> Trouble {
+        Trouble::Message(error.to_string())
+    }
+}
+
+/// What these words ask to be printed.
+fn output(words: &[&str]) -> Result<Vec<u8>, Trouble> {
+    let text = match words {
+        ["questions", "counts"] => counts::questions(),
+        ["questions", "corners"] => corners::questions(),
+        ["questions", "check"] => check::questions(),
+        ["questions", "check-large"] => check::large_questions(),
+        ["answers"] => answers_to_input()?,
+        ["list"] => list_levels(&standard_input()?),
+        ["suite"] => suite().iter().map(suite_line).collect(),
+        ["cage", name] => return cage_file(name),
+        _ => return Err(Trouble::Usage),
+    };
+    Ok(text.into_bytes())
+}
+
+fn print(bytes: &[u8]) -> Result<(), Trouble> {
+    let mut out = io::stdout();
+    out.write_all(bytes)?;
+    Ok(out.flush()?)
+}
+
+fn standard_input() -> Result<Vec<u8>, Trouble> {
+    let mut bytes = Vec::new();
+    io::stdin().read_to_end(&mut bytes)?;
+    Ok(bytes)
+}
+
+/// The answers to the questions on standard input.
+fn answers_to_input() -> Result<String, Trouble> {
+    let questions = String::from_utf8_lossy(&standard_input()?).into_owned();
+    answers(&questions).map_err(|unreadable| Trouble::Message(unreadable.to_string()))
+}
+
+/// The name, the lengths of the four tables, and the cage check's answer.
+fn suite_line(SuiteCage { name, cage, .. }: &SuiteCage) -> String {
+    let (twin, vert) = (cage.twin.len(), cage.vert.len());
+    let (edge, points) = (cage.edge.len(), cage.points.len());
+    let answer = answer_line(check_numbers(cage));
+    format!("{name} {twin} {vert} {edge} {points} {answer}\n")
+}
+
+/// The cage file of a named cage.
+fn cage_file(name: &str) -> Result<Vec<u8>, Trouble> {
+    let unknown = || Trouble::Message(format!("the suite has no cage named {name}"));
+    let cage = cage_named(name).ok_or_else(unknown)?;
+    let mut file = vec![0; LONGEST_FILE];
+    let length = write_cage_file(&cage, &mut file)
+        .map_err(|refusal| Trouble::Message(refusal.to_string()))?;
+    file.truncate(length as usize);
+    Ok(file)
+}
+
+/// More bytes than any cage file has.
+const LONGEST_FILE: usize = 65_536;

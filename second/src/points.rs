@@ -1,0 +1,134 @@
+//! Document 01, "Points": where the vertices of the new level lie.
+
+use std::collections::HashMap;
+
+use crate::cage::Cage;
+
+/// The points of the level after one that keeps the rules 3 to 8: first those
+/// of the old vertices, then one for each old edge.
+pub(crate) fn next_points(level: &Cage) -> Vec<i32> {
+    let blends = vertex_blends(level).into_iter().chain(edge_blends(level));
+    blends.flat_map(|blend| blend.point(level)).collect()
+}
+
+/// A weighted sum of vertices over a denominator.
+struct Blend {
+    terms: Vec<(i128, usize)>,
+    denominator: i128,
+}
+
+impl Blend {
+    /// Each coordinate exactly, then rounded once. An average of i32 numbers
+    /// is again an i32 number.
+    fn point(&self, level: &Cage) -> [i32; 3] {
+        [0, 1, 2].map(|axis| {
+            let coordinate = |vertex: usize| i128::from(level.points[3 * vertex + axis]);
+            let terms = self.terms.iter();
+            let numerator = terms.map(|&(weight, vertex)| weight * coordinate(vertex));
+            round_halves_up(numerator.sum(), self.denominator) as i32
+        })
+    }
+}
+
+/// The nearest whole number to a fraction with a positive denominator, halves
+/// going up.
+fn round_halves_up(numerator: i128, denominator: i128) -> i128 {
+    (2 * numerator + denominator).div_euclid(2 * denominator)
+}
+
+/// The rule of each old vertex, by vertex number.
+fn vertex_blends(level: &Cage) -> Vec<Blend> {
+    let border_neighbours = border_neighbours(level);
+    let spokes = spokes(level);
+    let blend = |(vertex, far_ends): (usize, &Vec<usize>)| match border_neighbours.get(&vertex) {
+        Some(neighbours) => border_vertex(vertex, neighbours),
+        None => inner_vertex(vertex, far_ends),
+    };
+    spokes.iter().enumerate().map(blend).collect()
+}
+
+/// The rule of each old edge, by edge number.
+fn edge_blends(level: &Cage) -> Vec<Blend> {
+    let halfedge_on: HashMap<usize, usize> =
+        level.halfedges().map(|h| (level.edge_of(h), h)).collect();
+    (0..halfedge_on.len())
+        .filter_map(|edge| halfedge_on.get(&edge))
+        .map(|&h| match level.twin_of(h) {
+            Some(twin) => inner_edge(level, h, twin),
+            None => border_edge(level, h),
+        })
+        .collect()
+}
+
+fn border_edge(level: &Cage, h: usize) -> Blend {
+    Blend {
+        terms: vec![(1, level.vert_of(h)), (1, level.far_end(h))],
+        denominator: 2,
+    }
+}
+
+fn inner_edge(level: &Cage, h: usize, twin: usize) -> Blend {
+    Blend {
+        terms: vec![
+            (3, level.vert_of(h)),
+            (3, level.far_end(h)),
+            (1, level.opposite_corner(h)),
+            (1, level.opposite_corner(twin)),
+        ],
+        denominator: 8,
+    }
+}
+
+fn border_vertex(vertex: usize, neighbours: &[usize]) -> Blend {
+    let neighbours = neighbours.iter().map(|&neighbour| (1, neighbour));
+    Blend {
+        terms: std::iter::once((6, vertex)).chain(neighbours).collect(),
+        denominator: 8,
+    }
+}
+
+fn inner_vertex(vertex: usize, far_ends: &[usize]) -> Blend {
+    let n = far_ends.len() as i128;
+    let spokes = far_ends.iter().map(|&far_end| (3, far_end));
+    Blend {
+        terms: std::iter::once((5 * n, vertex)).chain(spokes).collect(),
+        denominator: 8 * n,
+    }
+}
+
+/// The far ends of the two border edges of each border vertex.
+fn border_neighbours(level: &Cage) -> HashMap<usize, Vec<usize>> {
+    let mut neighbours: HashMap<usize, Vec<usize>> = HashMap::new();
+    for h in level.borders() {
+        let (from, to) = (level.vert_of(h), level.far_end(h));
+        neighbours.entry(from).or_default().push(to);
+        neighbours.entry(to).or_default().push(from);
+    }
+    neighbours
+}
+
+/// The far ends of the halfedges that leave each vertex: at an inner vertex,
+/// of all its spokes.
+fn spokes(level: &Cage) -> Vec<Vec<usize>> {
+    let mut far_ends = vec![Vec::new(); level.vertex_count()];
+    for h in level.halfedges() {
+        far_ends[level.vert_of(h)].push(level.far_end(h));
+    }
+    far_ends
+}
+
+#[cfg(test)]
+mod tests {
+    use super::round_halves_up;
+
+    #[test]
+    fn halves_go_up() {
+        assert_eq!(round_halves_up(12, 8), 2);
+        assert_eq!(round_halves_up(-12, 8), -1);
+        assert_eq!(round_halves_up(-13, 8), -2);
+        assert_eq!(round_halves_up(11, 8), 1);
+        assert_eq!(round_halves_up(-4, 8), 0);
+        assert_eq!(round_halves_up(-5, 8), -1);
+        assert_eq!(round_halves_up(0, 24), 0);
+    }
+}

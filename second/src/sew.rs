@@ -1,0 +1,107 @@
+//! For trying what document 01 says about "The cage": from a list of
+//! triangles to the four tables, and simple changes of a sewn cage.
+
+use std::collections::HashMap;
+
+use crate::cage::{Cage, MARKER};
+
+/// The corners of each triangle.
+pub(crate) type Triangles = Vec<[u32; 3]>;
+
+/// A cage of these triangles with all points at zero. Halfedges that run
+/// between the same two vertices in opposite directions are twins.
+pub(crate) fn sew(triangles: impl IntoIterator<Item = [u32; 3]>) -> Cage {
+    let triangles: Triangles = triangles.into_iter().collect();
+    let twin = twins_by_direction(&triangles);
+    sew_with_twins(triangles, twin)
+}
+
+/// A cage of these triangles with this TWIN table.
+pub(crate) fn sew_with_twins(triangles: Triangles, twin: Vec<u32>) -> Cage {
+    let vert = triangles.concat();
+    let vertices = vert.iter().max().map_or(0, |&highest| highest as usize + 1);
+    Cage {
+        edge: edges_by_lowest_halfedge(&twin),
+        points: vec![0; 3 * vertices],
+        twin,
+        vert,
+    }
+}
+
+fn twins_by_direction(triangles: &[[u32; 3]]) -> Vec<u32> {
+    let corners = triangles.iter();
+    let directions = corners.flat_map(|&[a, b, c]| [(a, b), (b, c), (c, a)]);
+    let halfedges: HashMap<(u32, u32), u32> = directions.clone().zip(0..).collect();
+    directions
+        .map(|(from, to)| halfedges.get(&(to, from)).copied().unwrap_or(MARKER))
+        .collect()
+}
+
+/// Numbers the edges in the order of their lowest halfedges.
+fn edges_by_lowest_halfedge(twin: &[u32]) -> Vec<u32> {
+    let mut edge: Vec<u32> = Vec::new();
+    let mut fresh = 0..;
+    for &twin in twin {
+        let number_of_lower_twin = edge.get(twin as usize).copied();
+        edge.extend(number_of_lower_twin.or_else(|| fresh.next()));
+    }
+    edge
+}
+
+/// The cage with the edge of `h` cut open: two border edges in its stead.
+pub(crate) fn slit(cage: &Cage, h: usize) -> Cage {
+    let mut twin = cage.twin.clone();
+    let partner = std::mem::replace(&mut twin[h], MARKER);
+    if let Some(cell) = twin.get_mut(partner as usize) {
+        *cell = MARKER;
+    }
+    Cage {
+        edge: edges_by_lowest_halfedge(&twin),
+        twin,
+        ..cage.clone()
+    }
+}
+
+/// Two cages in one, sharing nothing.
+pub(crate) fn beside(first: &Cage, second: &Cage) -> Cage {
+    Cage {
+        twin: followed_by(&first.twin, &second.twin, first.halfedge_count()),
+        vert: followed_by(&first.vert, &second.vert, first.vertex_count()),
+        edge: followed_by(&first.edge, &second.edge, first.edge_count()),
+        points: [&first.points[..], &second.points].concat(),
+    }
+}
+
+/// The first cells, then the second, raised by this number save for markers.
+fn followed_by(first: &[u32], second: &[u32], by: usize) -> Vec<u32> {
+    let raised = second.iter().map(|&cell| match cell {
+        MARKER => MARKER,
+        cell => cell + by as u32,
+    });
+    first.iter().copied().chain(raised).collect()
+}
+
+/// The cage with one vertex put in the place of another, whose number falls to
+/// those above it.
+pub(crate) fn weld(cage: &Cage, kept: u32, gone: u32) -> Cage {
+    let renumber = |&vertex: &u32| match vertex {
+        vertex if vertex == gone => kept,
+        vertex if vertex > gone => vertex - 1,
+        vertex => vertex,
+    };
+    let mut welded = cage.clone();
+    welded.vert = cage.vert.iter().map(renumber).collect();
+    let start = 3 * gone as usize;
+    welded.points.drain(start..start + 3);
+    welded
+}
+
+/// The cage with a vertex more, of this number, that no halfedge leaves.
+pub(crate) fn with_unused_vertex(cage: &Cage, unused: u32) -> Cage {
+    let renumber = |&vertex: &u32| vertex + u32::from(vertex >= unused);
+    let mut wider = cage.clone();
+    wider.vert = cage.vert.iter().map(renumber).collect();
+    let start = 3 * unused as usize;
+    wider.points.splice(start..start, [0; 3]);
+    wider
+}

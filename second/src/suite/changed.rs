@@ -1,0 +1,81 @@
+//! For trying what document 01 says in "Why a cage is sent back": accepted
+//! cages with one cell changed or two cells exchanged, whatever the answer.
+
+use super::SuiteCage;
+use crate::cage::{Cage, COORDINATE_LIMIT, MARKER};
+use crate::draw::Draw;
+
+/// How often each accepted cage of at most this many halfedges is changed.
+const CHANGES: usize = 5;
+const MOST_HALFEDGES: usize = 60;
+
+/// Each changed cage with its name.
+pub(super) fn changed_cages(accepted: &[SuiteCage]) -> Vec<(String, Cage)> {
+    let draw = &mut Draw::new(8);
+    let mut cages = Vec::new();
+    for entry in accepted {
+        if entry.cage.halfedge_count() <= MOST_HALFEDGES {
+            cages.extend((0..CHANGES).map(|number| {
+                let name = format!("{}-changed-{number}", entry.name);
+                (name, changed(&entry.cage, draw))
+            }));
+        }
+    }
+    cages
+}
+
+fn changed(cage: &Cage, draw: &mut Draw) -> Cage {
+    let mut changed = cage.clone();
+    let numbers = telling_numbers(cage, draw);
+    let coordinates = telling_coordinates(draw);
+    match draw.below(4) {
+        0 => change_table(&mut changed.twin, &numbers, draw),
+        1 => change_table(&mut changed.vert, &numbers, draw),
+        2 => change_table(&mut changed.edge, &numbers, draw),
+        _ => change_table(&mut changed.points, &coordinates, draw),
+    }
+    changed
+}
+
+/// One cell changed to one of these, or exchanged with another cell.
+fn change_table<T: Copy>(table: &mut [T], cells: &[T], draw: &mut Draw) {
+    let place = draw.place(table.len());
+    if draw.once_in(3) {
+        table.swap(place, draw.place(table.len()));
+    } else {
+        table[place] = draw.choice(table[place], cells);
+    }
+}
+
+fn telling_numbers(cage: &Cage, draw: &mut Draw) -> [u32; 10] {
+    let (h, e, v) = (
+        cage.halfedge_count() as u32,
+        cage.edge_count() as u32,
+        cage.vertex_count() as u32,
+    );
+    let drawn = draw.number();
+    [
+        0,
+        MARKER,
+        h,
+        h - 1,
+        e,
+        e - 1,
+        v,
+        v - 1,
+        (drawn % u64::from(h)) as u32,
+        drawn as u32,
+    ]
+}
+
+fn telling_coordinates(draw: &mut Draw) -> [i32; 7] {
+    [
+        0,
+        COORDINATE_LIMIT,
+        -COORDINATE_LIMIT,
+        COORDINATE_LIMIT + 1,
+        -COORDINATE_LIMIT - 1,
+        draw.number() as i32,
+        i32::MIN,
+    ]
+}

@@ -1,0 +1,60 @@
+//! For trying what document 01 says about "The cage": a seat cushion, open at
+//! its border.
+
+use super::shapes::{cells, open_sheet};
+use crate::cage::Cage;
+use crate::sew::sew;
+
+/// One millimetre in the units of the points.
+const MILLIMETRE: f64 = 1_024.0;
+
+/// The seat in millimetres: 420 wide, 400 deep, a crown of 45 with a hollow of
+/// 14 to sit in, and a front that falls 12 below the back.
+const HALF_WIDTH: f64 = 210.0;
+const HALF_DEPTH: f64 = 200.0;
+const CROWN: f64 = 45.0;
+const HOLLOW: f64 = 14.0;
+const FRONT_FALL: f64 = 12.0;
+
+/// Cells each way: 288 triangles.
+const CELLS: u32 = 12;
+
+/// A height-field over a rounded rectangle. Each cell is cut so that no
+/// triangle has two sides on the border.
+pub(super) fn cushion() -> Cage {
+    let leans = |column, row| (2 * column < CELLS) != (2 * row < CELLS);
+    let vertices = cells(CELLS + 1, CELLS + 1);
+    Cage {
+        points: vertices
+            .flat_map(|(column, row)| point(column, row))
+            .collect(),
+        ..sew(open_sheet(CELLS, CELLS, leans))
+    }
+}
+
+fn point(column: u32, row: u32) -> [i32; 3] {
+    let from_middle = |place: u32| 2.0 * f64::from(place) / f64::from(CELLS) - 1.0;
+    let (u, v) = (from_middle(column), from_middle(row));
+    let (u2, v2) = (u * u, v * v);
+    let (u4, v4) = (u2 * u2, v2 * v2);
+    let stretch = square_to_round(u.abs().max(v.abs()), (u4 + v4).sqrt().sqrt());
+    let rise = (1.0 - u4) * (1.0 - v4);
+    let hollow = (1.0 - u2) * (1.0 - v2);
+    let front = (1.0 - v) / 2.0;
+    let millimetres = [
+        HALF_WIDTH * u * stretch,
+        HALF_DEPTH * v * stretch,
+        CROWN * rise - HOLLOW * hollow * hollow - FRONT_FALL * front * front,
+    ];
+    millimetres.map(|coordinate| (coordinate * MILLIMETRE).round() as i32)
+}
+
+/// The factor from a square round the middle to the curve of the fourth degree
+/// inside it, which is a square with round corners.
+fn square_to_round(square: f64, curve: f64) -> f64 {
+    if curve > 0.0 {
+        square / curve
+    } else {
+        1.0
+    }
+}

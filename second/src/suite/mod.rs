@@ -1,0 +1,71 @@
+//! For trying what document 01 says: the named cages, those to accept and
+//! those to send back.
+
+mod changed;
+mod cushion;
+mod damaged;
+mod disguise;
+mod drawn;
+mod shapes;
+mod valid;
+
+use crate::cage::Cage;
+use crate::refusal::Refusal;
+
+/// What the cage check has to answer, as far as it is known beforehand.
+#[derive(Clone, Copy, Debug, PartialEq, Eq)]
+pub enum Expected {
+    Accepted,
+    Refused(Refusal),
+    Unforeseen,
+}
+
+/// A cage of the suite.
+#[derive(Clone, Debug)]
+pub struct SuiteCage {
+    pub name: String,
+    pub cage: Cage,
+    pub expected: Expected,
+}
+
+impl SuiteCage {
+    /// Whether this cage has more than 200 halfedges.
+    pub fn is_large(&self) -> bool {
+        self.cage.halfedge_count() > 200
+    }
+}
+
+/// The whole suite, the accepted cages first. No two have the same name.
+pub fn suite() -> Vec<SuiteCage> {
+    let accepted = accepted_cages();
+    let unforeseen = [drawn::refused_cages(), changed::changed_cages(&accepted)].concat();
+    let unforeseen = entries(unforeseen, Expected::Unforeseen);
+    [accepted, damaged::damaged_cages(), unforeseen].concat()
+}
+
+/// The cages that have to be accepted: each as it was built, then each again
+/// under other numbers.
+pub fn accepted_cages() -> Vec<SuiteCage> {
+    let built = [valid::built_cages(), drawn::accepted_cages()].concat();
+    let disguised = (0..).zip(&built).map(|(seed, (name, cage))| {
+        let name = format!("{name}-disguised");
+        (name, disguise::disguised(cage, seed))
+    });
+    let disguised = disguised.collect();
+    entries([built, disguised].concat(), Expected::Accepted)
+}
+
+fn entries(cages: Vec<(String, Cage)>, expected: Expected) -> Vec<SuiteCage> {
+    let entry = |(name, cage)| SuiteCage {
+        name,
+        cage,
+        expected,
+    };
+    cages.into_iter().map(entry).collect()
+}
+
+/// The cage of this name.
+pub fn cage_named(name: &str) -> Option<Cage> {
+    let found = suite().into_iter().find(|entry| entry.name == name);
+    found.map(|entry| entry.cage)
+}

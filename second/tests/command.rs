@@ -1,0 +1,81 @@
+//! The command line.
+
+use std::io::Write;
+use std::process::{Command, Output, Stdio};
+
+/// Runs the second program with these words and this standard input.
+fn run(words: &[&str], input: &[u8]) -> Output {
+    let mut child = Command::new(env!("CARGO_BIN_EXE_second"))
+        .args(words)
+        .stdin(Stdio::piped())
+        .stdout(Stdio::piped())
+        .stderr(Stdio::piped())
+        .spawn()
+        .expect("started");
+    let mut stdin = child.stdin.take().expect("standard input");
+    // A command that reads nothing may have ended already.
+    let _ = stdin.write_all(input);
+    drop(stdin);
+    child.wait_with_output().expect("ended")
+}
+
+fn printed(words: &[&str], input: &[u8]) -> String {
+    let output = run(words, input);
+    assert!(output.status.success(), "{words:?}");
+    assert!(output.stderr.is_empty(), "{words:?}");
+    String::from_utf8(output.stdout).expect("text")
+}
+
+#[test]
+fn unknown_usage_is_told() {
+    let unknown: [&[&str]; 6] = [
+        &[],
+        &["question"],
+        &["questions"],
+        &["answers", "check"],
+        &["list", "more"],
+        &["cage"],
+    ];
+    for words in unknown {
+        let output = run(words, &[]);
+        assert_eq!(output.status.code(), Some(2), "{words:?}");
+        assert!(output.stdout.is_empty());
+        assert_eq!(output.stderr.iter().filter(|&&b| b == b'\n').count(), 1);
+    }
+}
+
+#[test]
+fn a_named_cage_is_listed() {
+    for name in ["triangle", "pillow", "cushion"] {
+        let file = run(&["cage", name], &[]).stdout;
+        let listed = printed(&["list"], &file);
+        assert_eq!(listed.lines().count(), 8, "{name}");
+    }
+    assert_eq!(printed(&["list"], b"x"), "refused 10 0\n");
+}
+
+#[test]
+fn a_cage_without_a_file_is_told() {
+    let refused = run(&["cage", "bow-tie"], &[]);
+    assert_eq!(refused.status.code(), Some(1));
+    assert_eq!(refused.stderr, b"refused 7 0\n");
+    assert_eq!(run(&["cage", "nothing"], &[]).status.code(), Some(1));
+}
+
+#[test]
+fn each_question_has_an_answer() {
+    for kind in ["counts", "corners", "check"] {
+        let questions = printed(&["questions", kind], &[]);
+        let answers = printed(&["answers"], questions.as_bytes());
+        assert_eq!(questions.lines().count(), answers.lines().count());
+    }
+    let unreadable = run(&["answers"], b"1 2 3\n");
+    assert_eq!(unreadable.status.code(), Some(1));
+}
+
+#[test]
+fn the_suite_is_printed() {
+    let printed = printed(&["suite"], &[]);
+    assert!(printed.starts_with("triangle 3 3 3 9 0 0 3 3 1 3 3\n"));
+    assert!(printed.contains("\nbow-tie 6 6 6 15 7 0 0 0 0 0 0\n"));
+}

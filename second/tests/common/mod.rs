@@ -1,0 +1,120 @@
+//! What the tests share: tables to lend, levels taken out of them, and files.
+
+#![allow(dead_code)]
+
+use second::cage::{Cage, MARKER};
+use second::counts::LevelCounts;
+use second::file::write_cage_file;
+use second::refine::refine;
+use second::refusal::Refusal;
+use second::suite::{accepted_cages, SuiteCage};
+use second::tables::LentTables;
+
+/// Tables of these lengths, each cell of which can be told from its
+/// neighbours, so that any change shows.
+pub fn lendable(lengths: [usize; 4]) -> Cage {
+    let cells = |salt: u32, length: usize| (0..length as u32).map(move |at| at ^ salt).collect();
+    Cage {
+        twin: cells(0xAAAA_0000, lengths[0]),
+        vert: cells(0xBBBB_0000, lengths[1]),
+        edge: cells(0xCCCC_0000, lengths[2]),
+        points: (0..lengths[3] as i32).map(|at| -5 - at).collect(),
+    }
+}
+
+pub fn lend(tables: &mut Cage) -> LentTables<'_> {
+    LentTables {
+        twin: &mut tables.twin,
+        vert: &mut tables.vert,
+        edge: &mut tables.edge,
+        points: &mut tables.points,
+    }
+}
+
+/// Refines into tables of these lengths. On a refusal they must be as before.
+pub fn refined_into(
+    cage: &Cage,
+    depth: u64,
+    lengths: [usize; 4],
+) -> Result<(LevelCounts, Cage), Refusal> {
+    let before = lendable(lengths);
+    let mut tables = before.clone();
+    let answer = refine(cage, depth, &mut lend(&mut tables));
+    if answer.is_err() {
+        assert_eq!(tables, before);
+    }
+    answer.map(|counts| (counts, tables))
+}
+
+/// The lengths that levels 0 to the depth need.
+pub fn room(counts: &LevelCounts) -> [usize; 4] {
+    let h_room = counts.halfedge_room as usize;
+    [h_room, h_room, h_room, 3 * counts.vertex_room as usize]
+}
+
+/// Levels 0 to the depth of an accepted cage, one by one.
+pub fn levels(cage: &Cage, depth: u64) -> Vec<Cage> {
+    let checked = second::check::check(cage).expect("accepted");
+    let counts =
+        second::counts::count_question(checked.halfedges, checked.edges, checked.vertices, depth)
+            .expect("counted");
+    let (answer, tables) = refined_into(cage, depth, room(&counts)).expect("refined");
+    assert_eq!(answer, counts);
+    cut_into_levels(&tables, &counts, depth)
+}
+
+fn cut_into_levels(tables: &Cage, counts: &LevelCounts, depth: u64) -> Vec<Cage> {
+    let (mut h, mut p) = (0, 0);
+    let mut levels = Vec::new();
+    for level in 0..=depth as usize {
+        let h_end = h + counts.halfedges[level] as usize;
+        let p_end = p + 3 * counts.vertices[level] as usize;
+        levels.push(Cage {
+            twin: tables.twin[h..h_end].to_vec(),
+            vert: tables.vert[h..h_end].to_vec(),
+            edge: tables.edge[h..h_end].to_vec(),
+            points: tables.points[p..p_end].to_vec(),
+        });
+        (h, p) = (h_end, p_end);
+    }
+    levels
+}
+
+/// Document 01's single triangle, at these points.
+pub fn triangle(points: [i32; 9]) -> Cage {
+    Cage {
+        twin: vec![MARKER; 3],
+        vert: vec![0, 1, 2],
+        edge: vec![0, 1, 2],
+        points: points.to_vec(),
+    }
+}
+
+/// Document 01's triangle with the points of P4.
+pub fn document_triangle() -> Cage {
+    triangle([0, 0, 0, 800, 0, 0, 0, 800, 0])
+}
+
+/// Document 01's pillow with the points of P6.
+pub fn document_pillow() -> Cage {
+    Cage {
+        twin: vec![5, 4, 3, 2, 1, 0],
+        vert: vec![0, 1, 2, 0, 2, 1],
+        edge: vec![0, 1, 2, 2, 1, 0],
+        points: vec![0, 0, 0, 16, 0, 0, 0, 16, 0],
+    }
+}
+
+/// The accepted cages with at most 200 halfedges.
+pub fn small_accepted() -> Vec<SuiteCage> {
+    let all = accepted_cages().into_iter();
+    all.filter(|entry| !entry.is_large()).collect()
+}
+
+/// The cage file of an accepted cage.
+pub fn file_of(cage: &Cage) -> Vec<u8> {
+    let mut file = vec![0; 65_536];
+    let length = write_cage_file(cage, &mut file).expect("written");
+    file.truncate(length as usize);
+    file
+}
