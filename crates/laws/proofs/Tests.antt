@@ -34,9 +34,9 @@ module _ (p : ℕ → Bool) where
   any-false zero e k l = absurd (not-suc-le-zero l)
   any-false (suc n) e k l = by (ℕ-discrete k n) (or-false (any n p) (p n) e) (λ q. any-false n q k)
     where
-    by : Dec (k ≡ n) → (any n p ≡ false) × (p n ≡ false) → (any n p ≡ false → k < n → p k ≡ false) → p k ≡ false
-    by (yes q) m ih = rw q (m .1)
-    by (no q) m ih = ih (m .0) (omega (arith, q))
+      by : Dec (k ≡ n) → (any n p ≡ false) × (p n ≡ false) → (any n p ≡ false → k < n → p k ≡ false) → p k ≡ false
+      by (yes q) m ih = rw q (m .1)
+      by (no q) m ih = ih (m .0) (omega (arith, q))
 
   pub false-any : (n : ℕ) → ((k : ℕ) → k < n → p k ≡ false) → any n p ≡ false
   false-any zero f = refl
@@ -49,8 +49,8 @@ module _ (p : ℕ → Bool) where
   any-true zero e = absurd (true≢false (sym e))
   any-true (suc n) e = by-test (p n) (λ t. (n, le-refl _, t)) (λ f. on (any-true n (lower f)))
     where
-    lower : p n ≡ false → any n p ≡ true
-    lower f = sym (or-false-right (any n p)) ∙ (rw f at e)
+      lower : p n ≡ false → any n p ≡ true
+      lower f = sym (or-false-right (any n p)) ∙ (rw f at e)
 
-    on : (k : ℕ) × (k < n) × (p k ≡ true) → (k : ℕ) × (k < suc n) × (p k ≡ true)
-    on m = (m .0, omega (arith, m .1), m .2)
+      on : (k : ℕ) × (k < n) × (p k ≡ true) → (k : ℕ) × (k < suc n) × (p k ≡ true)
+      on m = (m .0, omega (arith, m .1), m .2)
