@@ -1,3 +1,4 @@
+pub mod Checks
 pub mod Told
 pub mod Growth
 pub mod FirstLevels

@@ -1,10 +1,12 @@
 -- Laws of tests. Assumes nothing.
 --     or-false, or-false₃      every part of a disjunction that fails
+--     and-false                a conjunction with a part that fails
+--     by-test                  a test holds or fails
 --     any-false, any-true      a test that no number below n passes, or one does
 --     false-any, true-any      the other way round
 use Prim.Native.Nat.{ℕ, zero, suc, _<_}
 use mathlib.Core.Path.{_≡_, refl, sym, _∙_}
-use mathlib.Core.Bool.{Bool, true, false, _||_, true≢false}
+use mathlib.Core.Bool.{Bool, true, false, _&&_, _||_, true≢false}
 use native.Mathlib.Decide.{ℕ-discrete}
 use native.Mathlib.Nat.{not-suc-le-zero, le-refl}
 use native.Mathlib.Omega.{arith}
@@ -19,6 +21,10 @@ or-false₃ a b c e =
     let n = or-false (a || b) c e in
     let m = or-false a b (n .0) in
     (m .0, m .1, n .1)
+
+pub and-false : (a : Bool) → (a && false) ≡ false
+and-false true = refl
+and-false false = refl
 
 -- every test is true or false
 pub by-test {ℓ} : {P : Type ℓ} (b : Bool) → (b ≡ true → P) → (b ≡ false → P) → P

@@ -1,0 +1,57 @@
+-- Laws of checks: when one is given and where, and which of a list is the answer. Assumes nothing.
+use Prim.Native.Nat.{ℕ, _<_}
+use mathlib.Core.Path.{_≡_, refl, sym, ap, _∙_}
+use mathlib.Core.Logic.{_≢_}
+use mathlib.Core.Bool.{Bool, true, false}
+use mathlib.Core.List.{List, [], _∷_}
+use native.Mathlib.Decide.{ℕ-discrete}
+use borrow.Author.Tests.{eq-eqb, ne-eqb}
+use Rattle.laws.specs.Below.{any, lowest}
+use Rattle.laws.proofs.Tests.{by-test, any-false, false-any, true-any}
+use Rattle.laws.proofs.Lowest.{lowest-is}
+use Rattle.halfedges.specs.Refusals.{Verdict, DONE, given, givenAt, first}
+
+-- no number below n is bad
+abbrev pub Clean : ℕ → (ℕ → Bool) → Type 0
+Clean n bad = (k : ℕ) → k < n → bad k ≡ false
+
+module _ (n : ℕ) (bad : ℕ → Bool) (at : ℕ → Verdict) where
+  pub clean-done : Clean n bad → givenAt n bad at ≡ DONE
+  unfolding givenAt given
+  clean-done f = rw (false-any bad n f)
+
+  pub given-here : (k : ℕ) → k < n → bad k ≡ true → ((j : ℕ) → j < k → bad j ≡ false) → givenAt n bad at ≡ at k
+  unfolding givenAt given
+  given-here k l e f = rw (true-any bad n k l e, lowest-is n bad k l e f)
+
+  pub passed-clean : ((k : ℕ) → at k .number ≢ 0) → givenAt n bad at .number ≡ 0 → Clean n bad
+  unfolding givenAt given
+  passed-clean r e = any-false bad n (by-test (any n bad) (λ t. absurd (r (lowest n bad) (rw t at e))) (λ f. f))
+
+module _ (v : Verdict) (vs : List Verdict) where
+  pub first-refused : v .number ≢ 0 → first (v ∷ vs) ≡ v
+  unfolding first
+  first-refused r = rw (ne-eqb (v .number) 0 r)
+
+  pub first-passed : v .number ≡ 0 → first (v ∷ vs) ≡ first vs
+  unfolding first
+  first-passed e = rw (eq-eqb (v .number) 0 e)
+
+-- every check of a list has the number 0
+pub data AllPassed : List Verdict → Type 0 where
+  none : AllPassed []
+  also : {v : Verdict} {vs : List Verdict} → v .number ≡ 0 → AllPassed vs → AllPassed (v ∷ vs)
+
+pub all-passed-done : {vs : List Verdict} → AllPassed vs → first vs ≡ DONE
+unfolding first
+all-passed-done none = refl
+all-passed-done (also {v = v} {vs = vs} e a) = first-passed v vs e ∙ all-passed-done a
+
+pub passed-all : (vs : List Verdict) → first vs .number ≡ 0 → AllPassed vs
+unfolding first
+passed-all [] e = none
+passed-all (v ∷ vs) e = by (ℕ-discrete (v .number) 0) (λ q. passed-all vs (ap (λ w. w .number) (sym (first-passed v vs q)) ∙ e))
+  where
+    by : Dec (v .number ≡ 0) → (v .number ≡ 0 → AllPassed vs) → AllPassed (v ∷ vs)
+    by (yes q) rest = also q (rest q)
+    by (no q) rest = absurd (q (ap (λ w. w .number) (sym (first-refused v vs q)) ∙ e))
