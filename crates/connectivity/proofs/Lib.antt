@@ -1,1 +1,4 @@
 pub mod Meaning
+pub mod Rows
+pub mod Children
+pub mod Fill

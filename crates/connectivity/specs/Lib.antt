@@ -3,4 +3,5 @@ pub mod Rules
 pub mod Fans
 pub mod Ruled
 pub mod NextLevel
+pub mod InPlace
 pub mod Operations

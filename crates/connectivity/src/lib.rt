@@ -1,1 +1,2 @@
-// The cage's three tables: what they are refused for, and their levels. Definitions in specs/; the code comes to them.
+// The cage's three tables: what they are refused for, and their levels.
+pub mod level;

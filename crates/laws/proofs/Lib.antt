@@ -2,3 +2,4 @@ pub mod Tests
 pub mod Lowest
 pub mod Tabulate
 pub mod Sums
+pub mod Parts
