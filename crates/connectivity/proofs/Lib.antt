@@ -2,3 +2,4 @@ pub mod Meaning
 pub mod Rows
 pub mod Children
 pub mod Fill
+pub mod Written

@@ -115,3 +115,24 @@ fn children(
     let second = half(e_previous, is_above(t_previous, previous), 1, 0);
     put(edge, corner, middle, first, across, second, across);
 }
+
+// Writes the next level of the level that stands at an offset straight after it.
+pub fn next_level(
+    twin: &mut [u32],
+    vert: &mut [u32],
+    edge: &mut [u32],
+    at: usize,
+    level: HalfedgeTable,
+)
+    requires { ⌜ Standing level at (tables (now twin) (now vert) (now edge)) ⌝ }
+    ensures { λ _. ⌜ tables (now (twin .exit)) (now (vert .exit)) (now (edge .exit)) ≡ childrenTo level at (tables (now (twin .entry)) (now (vert .entry)) (now (edge .entry))) (level .halfedges) ⌝ }
+{
+    let halfedges = level.halfedges;
+    let mut first = 0;
+    while first < halfedges {
+        children(twin, vert, edge, at, level, first, first + 2);
+        children(twin, vert, edge, at, level, first + 1, first);
+        children(twin, vert, edge, at, level, first + 2, first + 1);
+        first += 3;
+    }
+}
