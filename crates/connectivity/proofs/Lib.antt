@@ -3,3 +3,5 @@ pub mod Rows
 pub mod Children
 pub mod Fill
 pub mod Written
+pub mod Soundness
+pub mod Stages

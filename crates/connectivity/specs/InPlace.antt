@@ -5,9 +5,9 @@ use mathlib.Core.Logic.{_≢_}
 use mathlib.Core.List.{List}
 use lib.ListN.{length, set}
 use Rattle.halfedges.specs.declared.table.HalfedgeTable.{HalfedgeTable}
-use Rattle.laws.specs.Parts.{part}
-use Rattle.halfedges.specs.Cage.{marker, cell}
-use Rattle.halfedges.specs.Counts.{AtMost}
+use Rattle.laws.specs.Parts.{part, inFront}
+use Rattle.halfedges.specs.Cage.{marker, most-halfedges, most-depth, cell}
+use Rattle.halfedges.specs.Counts.{AtMost, roomH}
 use Rattle.connectivity.specs.Tables.{Tables, tables}
 use Rattle.connectivity.specs.NextLevel.{newTwin, newEdge, newVert}
 
@@ -39,6 +39,10 @@ unfoldable pub childrenTo : HalfedgeTable → ℕ → Tables → ℕ → Tables
 childrenTo t at x zero = x
 childrenTo t at x (suc h) = children t at (childrenTo t at x h) h
 
+-- cells of the three tables in front of what those held
+unfoldable pub tablesInFront : Tables → Tables → Tables
+tablesInFront c x = tables (inFront (c .twin) (x .twin)) (inFront (c .vert) (x .vert)) (inFront (c .edge) (x .edge))
+
 -- what a level must have for its next one to be written: less than the rules leave
 pub record Sound (t : HalfedgeTable) (c : Tables) : Type 0 where
   pub twin-long : length (c .twin) ≡ t .halfedges
@@ -56,3 +60,12 @@ pub record Standing (t : HalfedgeTable) (at : ℕ) (x : Tables) : Type 0 where
   pub twin-room : at + 5 * t .halfedges ≤ length (x .twin)
   pub vert-room : at + 5 * t .halfedges ≤ length (x .vert)
   pub edge-room : at + 5 * t .halfedges ≤ length (x .edge)
+
+-- a cage stands in front of the tables, with room for levels 0 to the depth
+pub record Refinable (t : HalfedgeTable) (depth : ℕ) (x : Tables) : Type 0 where
+  pub sound : Sound t (levelAt t 0 x)
+  pub small : AtMost most-halfedges t
+  pub shallow : depth ≤ most-depth
+  pub twin-room : roomH t depth ≤ length (x .twin)
+  pub vert-room : roomH t depth ≤ length (x .vert)
+  pub edge-room : roomH t depth ≤ length (x .edge)

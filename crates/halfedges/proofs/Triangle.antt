@@ -1,9 +1,10 @@
--- The way round a triangle: NEXT and PREV stay in whole tables (`next-below`, `previous-below`), undo each other
--- (`previous-next`, `next-previous`), and are known from a triangle's first halfedge (`previous-of-first`, ..). Assumes nothing.
-use Prim.Native.Nat.{ℕ, _+_, _-_, _%_, _≤_, _<_}
-use mathlib.Core.Path.{_≡_, ap, _∙_}
+-- The way round a triangle: NEXT and PREV by the place in it (`next-last`, .. `previous-else`), and that they stay in whole
+-- tables (`next-below`, `previous-below`); four times whole is whole (`four-whole`). Assumes nothing.
+use Prim.Native.Nat.{ℕ, _+_, _-_, _*_, _/_, _%_, _≤_, _<_}
+use mathlib.Core.Path.{_≡_}
 use mathlib.Core.Logic.{_≢_}
 use native.Mathlib.Decide.{ℕ-discrete}
+use native.Mathlib.Nat.{mul-mod-right}
 use native.Mathlib.Omega.{arith}
 use borrow.Author.Tests.{eq-eqb, ne-eqb}
 use Rattle.halfedges.specs.Cage.{NEXT, PREV}
@@ -45,3 +46,8 @@ previous-below h n w l = by (ℕ-discrete (h % 3) 0)
     by : Dec (h % 3 ≡ 0) → PREV h < n
     by (yes e) = omega (arith, previous-first h e)
     by (no e) = omega (arith, previous-else h e)
+
+pub four-whole : (n : ℕ) → n % 3 ≡ 0 → 4 * n % 3 ≡ 0
+four-whole n e =
+    let q : 4 * n ≡ 3 * (4 * (n / 3)) = omega arith in
+    rw q (mul-mod-right 3 (4 * (n / 3)))

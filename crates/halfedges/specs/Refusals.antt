@@ -1,12 +1,12 @@
 -- Document 01, "Why a cage is sent back": the numbers, and how checks follow each other.
 use Prim.Native.Nat.{ℕ}
 use mathlib.Core.Bool.{Bool, cond}
-use mathlib.Core.List.{List, [], _∷_, _++_}
+use mathlib.Core.List.{List, [], _∷_}
 use lib.Dec.{eqb, ltb}
-use lib.ListN.{length, drop}
 use Rattle.halfedges.specs.declared.answer.Answer.{Answer}
 use Rattle.halfedges.specs.declared.answer.Answer.the-variants.{Done, Shape, Limit, Twin, Vertex, Unused, Edge, Fan, Point, Room, Short, Field, Extra}
 use Rattle.laws.specs.Below.{any, lowest}
+use Rattle.laws.specs.Parts.{inFront}
 
 -- a number of the table, with the place returned
 pub record Verdict : Type 0 where
@@ -106,4 +106,4 @@ said v values zeros = record { verdict = v; values = whenDone v values zeros }
 
 -- a lent table once done: new cells, and past them what it held; "every refusal leaves all lent tables and file buffers unchanged"
 unfoldable pub filled : {A : Type 0} → Verdict → List A → List A → List A
-filled v cells lent = whenDone v (cells ++ drop (length cells) lent) lent
+filled v cells lent = whenDone v (inFront cells lent) lent

@@ -3,3 +3,4 @@ pub mod Lowest
 pub mod Tabulate
 pub mod Sums
 pub mod Parts
+pub mod EndToEnd

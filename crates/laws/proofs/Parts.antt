@@ -1,11 +1,11 @@
--- Laws of parts of lists: `length-part`, `part-at`, `in-three`, `part-front`. Assumes nothing.
+-- Laws of parts of lists: `length-part`, `part-at`, `in-three`, `part-front`, `length-inFront`. Assumes nothing.
 use Prim.Native.Nat.{ℕ, _+_, _≤_, _<_}
 use mathlib.Core.Path.{_≡_, sym, ap, _∙_}
 use mathlib.Core.List.{List, _++_}
 use native.Mathlib.Omega.{arith}
-use lib.ListN.{length, getD, take, drop, length-take, length-drop, take-append-drop}
+use lib.ListN.{length, getD, take, drop, length-append, length-take, length-drop, take-append-drop}
 use lib.Seq.{getD-take, getD-drop, drop-drop, take-append-le, drop-append-le}
-use Rattle.laws.specs.Parts.{part}
+use Rattle.laws.specs.Parts.{part, inFront}
 
 module _ {A : Type 0} (xs : List A) (at n : ℕ) where
   pub length-part : at + n ≤ length xs → length (part xs at n) ≡ n
@@ -26,3 +26,6 @@ module _ {A : Type 0} (xs : List A) (at n : ℕ) where
       let a : at ≤ length xs = omega arith in
       let b : n ≤ length (drop at xs) = simp length-drop (omega arith) in
       rw (drop-append-le at xs ys a, take-append-le n (drop at xs) ys b)
+
+pub length-inFront : {A : Type 0} (cells xs : List A) → length cells ≤ length xs → length (inFront cells xs) ≡ length xs
+length-inFront cells xs l = simp (length-append, length-drop) (omega arith)

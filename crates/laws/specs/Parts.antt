@@ -1,8 +1,12 @@
--- A part of a list.
+-- Parts of lists.
 use Prim.Native.Nat.{ℕ}
-use mathlib.Core.List.{List}
-use lib.ListN.{take, drop}
+use mathlib.Core.List.{List, _++_}
+use lib.ListN.{length, take, drop}
 
 -- n elements from an offset on
 abbrev pub part : {A : Type 0} → List A → ℕ → ℕ → List A
 part xs at n = take n (drop at xs)
+
+-- some cells in front of a list, and past them what it held
+abbrev pub inFront : {A : Type 0} → List A → List A → List A
+inFront cells xs = cells ++ drop (length cells) xs

@@ -1,0 +1,117 @@
+-- Levels 0 to d end to end in front of the lent tables: the cage alone (`stage-start`), the last level stands there
+-- (`stage-stands`), and with its next level it is the next stage (`stage-more`). Assumes nothing.
+use Prim.Native.Nat.{ℕ, zero, suc, _+_, _*_, _^_, _≤_, _<_}
+use mathlib.Core.Path.{_≡_, refl, sym, ap, _∙_}
+use mathlib.Core.List.{List, _++_}
+use native.Mathlib.Numerals.{add-one}
+use native.Mathlib.Nat.{le-refl}
+use native.Mathlib.Omega.{arith}
+use lib.ListN.{length, take, drop, take-append-drop, length-append, length-drop}
+use lib.Seq.{length-take-le}
+use Rattle.halfedges.specs.declared.table.HalfedgeTable.{HalfedgeTable}
+use Rattle.laws.specs.Below.{endToEnd, sum}
+use Rattle.laws.specs.Parts.{part, inFront}
+use Rattle.laws.proofs.Parts.{length-inFront}
+use Rattle.laws.proofs.Sums.{sum-same, sum-grows}
+use Rattle.laws.proofs.EndToEnd.{length-endToEnd, last-part, one-more}
+use Rattle.halfedges.specs.Cage.{most-halfedges}
+use Rattle.halfedges.specs.Counts.{AtMost, countsAt, Hs, roomH}
+use Rattle.halfedges.proofs.Growth.{levels-at-most}
+use Rattle.connectivity.specs.Tables.{Tables, tables}
+use Rattle.connectivity.specs.NextLevel.{next, level}
+use Rattle.connectivity.specs.Operations.{levelsEndToEnd}
+use Rattle.connectivity.specs.InPlace.{levelAt, tablesInFront, childrenTo, Sound, Standing, Refinable}
+use Rattle.connectivity.proofs.Soundness.{sound-at}
+use Rattle.connectivity.proofs.Written.{next-written}
+
+module _ (t : HalfedgeTable) (depth : ℕ) (x : Tables) (r : Refinable t depth x) where
+  abbrev c : Tables
+  c = levelAt t 0 x
+
+  sound : (d : ℕ) → Sound (countsAt t d) (level t c d)
+  sound = sound-at t c (r .sound)
+
+  -- one table: its levels f, each of which has the level's number of halfedges
+  module _ (f : ℕ → List ℕ) (long : (d : ℕ) → length (f d) ≡ Hs t d) where
+    front-long : (d : ℕ) → length (endToEnd d f) ≡ sum d (Hs t)
+    front-long d = length-endToEnd d f ∙ sum-same d _ _ (λ k _. long k)
+
+    start : (xs : List ℕ) → f 0 ≡ part xs 0 (Hs t 0) → xs ≡ inFront (endToEnd 1 f) xs
+    start xs e = rw (long 0, e) (sym (take-append-drop (Hs t 0) xs))
+
+    last : (xs : List ℕ) (d : ℕ) → part (inFront (endToEnd (suc d) f) xs) (sum d (Hs t)) (Hs t d) ≡ f d
+    last xs d = rw (← front-long d, ← long d) (last-part f xs d)
+
+    more : (xs : List ℕ) (d : ℕ) → take (sum d (Hs t) + Hs t d) (inFront (endToEnd (suc d) f) xs) ++ (f (suc d) ++ drop (sum d (Hs t) + 5 * Hs t d) (inFront (endToEnd (suc d) f) xs)) ≡ inFront (endToEnd (suc (suc d)) f) xs
+    unfolding countsAt
+    more xs d =
+        let e : sum d (Hs t) + 5 * Hs t d ≡ sum d (Hs t) + Hs t d + length (f (suc d)) = omega (arith, long (suc d)) in
+        rw e (one-more f xs d (sum d (Hs t) + Hs t d) (sym (front-long (suc d))))
+
+    fits : (xs : List ℕ) (d : ℕ) → d < depth → roomH t depth ≤ length xs → sum d (Hs t) + 5 * Hs t d ≤ length (inFront (endToEnd (suc d) f) xs)
+    unfolding countsAt
+    fits xs d l room =
+        let g : roomH t (suc d) ≤ roomH t depth = sum-grows (Hs t) (suc (suc d)) (suc depth) (omega arith) in
+        let e = length-inFront (endToEnd (suc d) f) xs (rw (front-long (suc d)) (omega arith)) in
+        omega (arith, e)
+
+  twins : ℕ → List ℕ
+  twins d = level t c d .twin
+
+  verts : ℕ → List ℕ
+  verts d = level t c d .vert
+
+  edges : ℕ → List ℕ
+  edges d = level t c d .edge
+
+  twins-long : (d : ℕ) → length (twins d) ≡ Hs t d
+  unfolding twins
+  twins-long d = sound d .twin-long
+
+  verts-long : (d : ℕ) → length (verts d) ≡ Hs t d
+  unfolding verts
+  verts-long d = sound d .vert-long
+
+  edges-long : (d : ℕ) → length (edges d) ≡ Hs t d
+  unfolding edges
+  edges-long d = sound d .edge-long
+
+  -- levels 0 to d, and past them what the tables held
+  pub stage : ℕ → Tables
+  stage d = tablesInFront (levelsEndToEnd t c d) x
+
+  module _ (d : ℕ) where
+    level-there : levelAt (countsAt t d) (sum d (Hs t)) (stage d) ≡ level t c d
+    unfolding stage tablesInFront levelsEndToEnd twins verts edges
+    level-there = λ i. tables (last twins twins-long (x .twin) d i) (last verts verts-long (x .vert) d i) (last edges edges-long (x .edge) d i)
+
+    pub stage-stands : d < depth → Standing (countsAt t d) (sum d (Hs t)) (stage d)
+    unfolding stage tablesInFront levelsEndToEnd twins verts edges
+    stage-stands l =
+        let a = levels-at-most most-halfedges 5 t (r .small) d (omega (arith, r .shallow)) in
+        record {
+          sound = rw level-there (sound d);
+          small = record { halfedges = omega arith; edges = omega arith; vertices = omega arith };
+          twin-room = fits twins twins-long (x .twin) d l (r .twin-room);
+          vert-room = fits verts verts-long (x .vert) d l (r .vert-room);
+          edge-room = fits edges edges-long (x .edge) d l (r .edge-room);
+        }
+
+    -- the stage with a level's next one after it
+    abbrev with-next : Tables → Tables
+    with-next l =
+        tables
+        (take (sum d (Hs t) + Hs t d) (stage d .twin) ++ (next (countsAt t d) l .twin ++ drop (sum d (Hs t) + 5 * Hs t d) (stage d .twin)))
+        (take (sum d (Hs t) + Hs t d) (stage d .vert) ++ (next (countsAt t d) l .vert ++ drop (sum d (Hs t) + 5 * Hs t d) (stage d .vert)))
+        (take (sum d (Hs t) + Hs t d) (stage d .edge) ++ (next (countsAt t d) l .edge ++ drop (sum d (Hs t) + 5 * Hs t d) (stage d .edge)))
+
+    pub stage-more : d < depth → childrenTo (countsAt t d) (sum d (Hs t)) (stage d) (Hs t d) ≡ stage (suc d)
+    unfolding stage tablesInFront levelsEndToEnd twins verts edges level
+    stage-more l =
+        next-written (countsAt t d) (sum d (Hs t)) (stage d) (stage-stands l)
+        ∙ ap with-next level-there
+        ∙ λ i. tables (more twins twins-long (x .twin) d i) (more verts verts-long (x .vert) d i) (more edges edges-long (x .edge) d i)
+
+  pub stage-start : x ≡ stage 0
+  unfolding stage tablesInFront levelsEndToEnd twins verts edges level countsAt
+  stage-start = λ i. tables (start twins twins-long (x .twin) refl i) (start verts verts-long (x .vert) refl i) (start edges edges-long (x .edge) refl i)
