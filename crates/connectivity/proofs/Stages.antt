@@ -1,5 +1,5 @@
--- Levels 0 to d end to end in front of the lent tables: the cage alone (`stage-start`), the last level stands there
--- (`stage-stands`), and with its next level it is the next stage (`stage-more`). Assumes nothing.
+-- Levels 0 to d end to end in front of the lent tables, and the steps of the loop that fills them in: `reached-start`,
+-- `reached-stands`, `reached-on`, `reached-long`. Assumes nothing.
 use Prim.Native.Nat.{ℕ, zero, suc, _+_, _*_, _^_, _≤_, _<_}
 use mathlib.Core.Path.{_≡_, refl, sym, ap, _∙_}
 use mathlib.Core.List.{List, _++_}
@@ -15,7 +15,7 @@ use Rattle.laws.proofs.Parts.{length-inFront}
 use Rattle.laws.proofs.Sums.{sum-same, sum-grows}
 use Rattle.laws.proofs.EndToEnd.{length-endToEnd, last-part, one-more}
 use Rattle.halfedges.specs.Cage.{most-halfedges}
-use Rattle.halfedges.specs.Counts.{AtMost, countsAt, Hs, roomH}
+use Rattle.halfedges.specs.Counts.{AtMost, finer, countsAt, Hs, roomH}
 use Rattle.halfedges.proofs.Growth.{levels-at-most}
 use Rattle.connectivity.specs.Tables.{Tables, tables}
 use Rattle.connectivity.specs.NextLevel.{next, level}
@@ -23,6 +23,17 @@ use Rattle.connectivity.specs.Operations.{levelsEndToEnd}
 use Rattle.connectivity.specs.InPlace.{levelAt, tablesInFront, childrenTo, Sound, Standing, Refinable}
 use Rattle.connectivity.proofs.Soundness.{sound-at}
 use Rattle.connectivity.proofs.Written.{next-written}
+
+-- levels 0 to d, and past them what the tables held
+unfoldable pub stage : HalfedgeTable → Tables → ℕ → Tables
+stage t x d = tablesInFront (levelsEndToEnd t (levelAt t 0 x) d) x
+
+-- the loop has filled in the levels up to d, whose counts are u and which stands at an offset
+pub record Reached (t : HalfedgeTable) (depth : ℕ) (x y : Tables) (u : HalfedgeTable) (at d : ℕ) : Type 0 where
+  pub so-far : y ≡ stage t x d
+  pub counts : u ≡ countsAt t d
+  pub offset : at ≡ sum d (Hs t)
+  pub within : d ≤ depth
 
 module _ (t : HalfedgeTable) (depth : ℕ) (x : Tables) (r : Refinable t depth x) where
   abbrev c : Tables
@@ -48,12 +59,16 @@ module _ (t : HalfedgeTable) (depth : ℕ) (x : Tables) (r : Refinable t depth x
         let e : sum d (Hs t) + 5 * Hs t d ≡ sum d (Hs t) + Hs t d + length (f (suc d)) = omega (arith, long (suc d)) in
         rw e (one-more f xs d (sum d (Hs t) + Hs t d) (sym (front-long (suc d))))
 
+    kept : (xs : List ℕ) (d : ℕ) → d ≤ depth → roomH t depth ≤ length xs → length (inFront (endToEnd (suc d) f) xs) ≡ length xs
+    kept xs d l room =
+        length-inFront (endToEnd (suc d) f) xs
+        (rw (front-long (suc d)) (omega (arith, sum-grows (Hs t) (suc d) (suc depth) (omega arith))))
+
     fits : (xs : List ℕ) (d : ℕ) → d < depth → roomH t depth ≤ length xs → sum d (Hs t) + 5 * Hs t d ≤ length (inFront (endToEnd (suc d) f) xs)
     unfolding countsAt
     fits xs d l room =
         let g : roomH t (suc d) ≤ roomH t depth = sum-grows (Hs t) (suc (suc d)) (suc depth) (omega arith) in
-        let e = length-inFront (endToEnd (suc d) f) xs (rw (front-long (suc d)) (omega arith)) in
-        omega (arith, e)
+        omega (arith, kept xs d (omega arith) room)
 
   twins : ℕ → List ℕ
   twins d = level t c d .twin
@@ -76,16 +91,12 @@ module _ (t : HalfedgeTable) (depth : ℕ) (x : Tables) (r : Refinable t depth x
   unfolding edges
   edges-long d = sound d .edge-long
 
-  -- levels 0 to d, and past them what the tables held
-  pub stage : ℕ → Tables
-  stage d = tablesInFront (levelsEndToEnd t c d) x
-
   module _ (d : ℕ) where
-    level-there : levelAt (countsAt t d) (sum d (Hs t)) (stage d) ≡ level t c d
+    level-there : levelAt (countsAt t d) (sum d (Hs t)) (stage t x d) ≡ level t c d
     unfolding stage tablesInFront levelsEndToEnd twins verts edges
     level-there = λ i. tables (last twins twins-long (x .twin) d i) (last verts verts-long (x .vert) d i) (last edges edges-long (x .edge) d i)
 
-    pub stage-stands : d < depth → Standing (countsAt t d) (sum d (Hs t)) (stage d)
+    stage-stands : d < depth → Standing (countsAt t d) (sum d (Hs t)) (stage t x d)
     unfolding stage tablesInFront levelsEndToEnd twins verts edges
     stage-stands l =
         let a = levels-at-most most-halfedges 5 t (r .small) d (omega (arith, r .shallow)) in
@@ -101,17 +112,49 @@ module _ (t : HalfedgeTable) (depth : ℕ) (x : Tables) (r : Refinable t depth x
     abbrev with-next : Tables → Tables
     with-next l =
         tables
-        (take (sum d (Hs t) + Hs t d) (stage d .twin) ++ (next (countsAt t d) l .twin ++ drop (sum d (Hs t) + 5 * Hs t d) (stage d .twin)))
-        (take (sum d (Hs t) + Hs t d) (stage d .vert) ++ (next (countsAt t d) l .vert ++ drop (sum d (Hs t) + 5 * Hs t d) (stage d .vert)))
-        (take (sum d (Hs t) + Hs t d) (stage d .edge) ++ (next (countsAt t d) l .edge ++ drop (sum d (Hs t) + 5 * Hs t d) (stage d .edge)))
+        (take (sum d (Hs t) + Hs t d) (stage t x d .twin) ++ (next (countsAt t d) l .twin ++ drop (sum d (Hs t) + 5 * Hs t d) (stage t x d .twin)))
+        (take (sum d (Hs t) + Hs t d) (stage t x d .vert) ++ (next (countsAt t d) l .vert ++ drop (sum d (Hs t) + 5 * Hs t d) (stage t x d .vert)))
+        (take (sum d (Hs t) + Hs t d) (stage t x d .edge) ++ (next (countsAt t d) l .edge ++ drop (sum d (Hs t) + 5 * Hs t d) (stage t x d .edge)))
 
-    pub stage-more : d < depth → childrenTo (countsAt t d) (sum d (Hs t)) (stage d) (Hs t d) ≡ stage (suc d)
+    stage-more : d < depth → childrenTo (countsAt t d) (sum d (Hs t)) (stage t x d) (Hs t d) ≡ stage t x (suc d)
     unfolding stage tablesInFront levelsEndToEnd twins verts edges level
     stage-more l =
-        next-written (countsAt t d) (sum d (Hs t)) (stage d) (stage-stands l)
+        next-written (countsAt t d) (sum d (Hs t)) (stage t x d) (stage-stands l)
         ∙ ap with-next level-there
         ∙ λ i. tables (more twins twins-long (x .twin) d i) (more verts verts-long (x .vert) d i) (more edges edges-long (x .edge) d i)
 
-  pub stage-start : x ≡ stage 0
+  stage-start : x ≡ stage t x 0
   unfolding stage tablesInFront levelsEndToEnd twins verts edges level countsAt
   stage-start = λ i. tables (start twins twins-long (x .twin) refl i) (start verts verts-long (x .vert) refl i) (start edges edges-long (x .edge) refl i)
+
+  small : (d : ℕ) → d ≤ depth → AtMost (4 ^ 6 * most-halfedges) (countsAt t d)
+  small d l = levels-at-most most-halfedges 6 t (r .small) d (omega (arith, r .shallow))
+
+  -- the steps of the loop: where it starts, what stands there, one level more, and how long the tables are
+  pub reached-start : Reached t depth x x t 0 0
+  unfolding countsAt
+  reached-start = record { so-far = stage-start; counts = refl; offset = refl; within = omega arith }
+
+  module _ {y : Tables} {u : HalfedgeTable} {at d : ℕ} (e : Reached t depth x y u at d) where
+    pub reached-small : AtMost (4 ^ 6 * most-halfedges) u
+    reached-small = rw (e .counts) (small d (e .within))
+
+    pub reached-stands : d < depth → Standing u at y
+    reached-stands l = rw (e .counts, e .offset, e .so-far) (stage-stands d l)
+
+    pub reached-on : {z : Tables} {w : HalfedgeTable} → d < depth → z ≡ childrenTo u at y (u .halfedges) → w ≡ finer u → Reached t depth x z w (at + u .halfedges) (d + 1)
+    unfolding countsAt
+    reached-on l f g =
+        rw (add-one d)
+        (record {
+          so-far = f ∙ rw (e .counts, e .offset, e .so-far) (stage-more d l);
+          counts = g ∙ ap finer (e .counts);
+          offset = rw (e .counts, e .offset);
+          within = l;
+        })
+
+    pub reached-long : (length (y .twin) ≡ length (x .twin)) × (length (y .vert) ≡ length (x .vert)) × (length (y .edge) ≡ length (x .edge))
+    unfolding stage tablesInFront levelsEndToEnd twins verts edges
+    reached-long =
+        rw (e .so-far)
+        (kept twins twins-long (x .twin) d (e .within) (r .twin-room), kept verts verts-long (x .vert) d (e .within) (r .vert-room), kept edges edges-long (x .edge) d (e .within) (r .edge-room))

@@ -1,2 +1,3 @@
 // The cage's three tables: what they are refused for, and their levels.
 pub mod level;
+pub mod refine;
