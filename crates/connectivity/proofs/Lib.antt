@@ -5,3 +5,5 @@ pub mod Fill
 pub mod Written
 pub mod Soundness
 pub mod Stages
+pub mod Carriers
+pub mod RuleTests

@@ -4,4 +4,5 @@ pub mod Fans
 pub mod Ruled
 pub mod NextLevel
 pub mod InPlace
+pub mod Tally
 pub mod Operations

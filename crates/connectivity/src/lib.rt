@@ -1,3 +1,4 @@
 // The cage's three tables: what they are refused for, and their levels.
 pub mod level;
 pub mod refine;
+pub mod rules;

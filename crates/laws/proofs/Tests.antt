@@ -31,7 +31,11 @@ pub by-test {ℓ} : {P : Type ℓ} (b : Bool) → (b ≡ true → P) → (b ≡ 
 by-test true f g = f refl
 by-test false f g = g refl
 
-or-false-right : (a : Bool) → (a || false) ≡ a
+pub or-true : (a : Bool) → (a || true) ≡ true
+or-true true = refl
+or-true false = refl
+
+pub or-false-right : (a : Bool) → (a || false) ≡ a
 or-false-right true = refl
 or-false-right false = refl
 
