@@ -1,6 +1,7 @@
 -- Edges, counted. In tables of at most as many halfedges as the marker:
 --     twin-has-twin                TWIN leads back
 --     above-border, above-twin     a halfedge without twin stands above, and of two twins one does
+--     partner, pairing             the twin, or where there is none the halfedge itself: a turning
 --     twice-edges                  2E = H + B by rule 3, since TWIN pairs all halfedges but those on the border
 --     carried                      with rule 6 every edge number below E is carried: those that stand above carry E different ones
 -- Assumes nothing.
@@ -36,15 +37,15 @@ one-lower a b d = by (decLt a b)
     by (no l) = rw (le-ltb a b (omega (arith, l)), lt-ltb b a (omega (arith, l, d)))
 
 -- h's twin, and h itself where it has none
-partner : List ℕ → ℕ → ℕ
+pub partner : List ℕ → ℕ → ℕ
 partner twin h = cond (border twin h) h (cell twin h)
 
 module _ (twin : List ℕ) where
-  partner-border : (h : ℕ) → cell twin h ≡ marker → partner twin h ≡ h
+  pub partner-border : (h : ℕ) → cell twin h ≡ marker → partner twin h ≡ h
   unfolding partner
   partner-border h m = rw (eq-eqb (cell twin h) marker m)
 
-  partner-inner : (h : ℕ) → cell twin h ≢ marker → partner twin h ≡ cell twin h
+  pub partner-inner : (h : ℕ) → cell twin h ≢ marker → partner twin h ≡ cell twin h
   unfolding partner
   partner-inner h n = rw (ne-eqb (cell twin h) marker n)
 
@@ -57,7 +58,7 @@ module _ (twin : List ℕ) (small : length twin ≤ marker) (p : Paired twin) wh
   above-twin h l n =
       rw (above-inner twin h n, above-inner twin (cell twin h) (twin-has-twin h l n), p .back h l n) (one-lower (cell twin h) h (p .other h l n))
 
-  pairing : Turning (length twin) (partner twin) (partner twin)
+  pub pairing : Turning (length twin) (partner twin) (partner twin)
   pairing = record { below = below; back-below = below; back = back; forth = back }
     where
       below : (h : ℕ) → h < length twin → partner twin h < length twin

@@ -1,6 +1,7 @@
 -- Rule 7's test is its plain statement: `joined-test` and `test-joined`, where rule 3 holds and triangles are whole.
 -- Links lead on one way from a halfedge and lead to it from at most one, so what is joined is met going on from one of
--- the two; and a run of links needs no halfedge twice. Assumes nothing.
+-- the two; and a run of links needs no halfedge twice. No link leads to a halfedge without twin, so of joined ones at
+-- most one has none: `one-border`. Assumes nothing.
 use Prim.Native.Nat.{ℕ, zero, suc, _+_, _-_, _%_, _≤_, _<_}
 use mathlib.Core.Path.{_≡_, refl, sym, ap, subst, _∙_}
 use mathlib.Core.Logic.{_≢_}
@@ -168,3 +169,20 @@ module _ (twin : List ℕ) (whole : length twin % 3 ≡ 0) (p : Paired twin) whe
       by-test (met twin (length twin) g h)
       (λ m. let r = met-run twin (length twin) g h m in run-joined g h (r .0) lg (r .1))
       (λ m. let r = met-run twin (length twin) h g (rw m at e) in back (run-joined h g (r .0) lh (r .1)))
+
+  -- where a run ends without a twin it has not begun
+  border-start : length twin ≤ marker → (g h n : ℕ) → g < length twin → cell twin h ≡ marker → Run twin g h n → g ≡ h
+  unfolding walk
+  border-start small g h zero l m r = r .ends
+  border-start small g h (suc n) l m r =
+      let x = walk twin g n in
+      let lx = prev-in x (walk-below g h (suc n) l r n (omega arith)) in
+      let e : PREV x ≡ marker = sym (p .back (PREV x) lx (r .goes n (omega arith))) ∙ ap (cell twin) (r .ends) ∙ m in
+      absurd (omega arith)
+
+  pub one-border : length twin ≤ marker → (g h : ℕ) → g < length twin → h < length twin → cell twin g ≡ marker → cell twin h ≡ marker → Joined twin g h → g ≡ h
+  one-border small g h lg lh mg mh j = by (joined-reached g lg j .0 (ahead 0 (stay twin g)))
+    where
+      by : Reached g h → g ≡ h
+      by (ahead n r) = border-start small g h n lg mh r
+      by (behind n r) = sym (border-start small h g n lh mg r)

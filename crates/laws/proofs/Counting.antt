@@ -3,6 +3,7 @@
 --     sum-swap                                 a sum of sums, in the other order
 --     sum-split, sum-triples                   in two parts, and three terms at a time
 --     sum-at                                   f at one place
+--     same-eqb                                 tests that hold together are the same
 --     sum-turned                               f along a one-to-one turning of the numbers below n
 use Prim.Native.Nat.{ℕ, zero, suc, _+_, _*_, _<_}
 use mathlib.Core.Path.{_≡_, refl, sym, ap, ap₂, _∙_}
@@ -63,7 +64,11 @@ pub record Turning (n : ℕ) (s r : ℕ → ℕ) : Type 0 where
   pub back : (k : ℕ) → k < n → r (s k) ≡ k
   pub forth : (k : ℕ) → k < n → s (r k) ≡ k
 
-same-eqb : (a b c d : ℕ) → (a ≡ b → c ≡ d) → (c ≡ d → a ≡ b) → eqb a b ≡ eqb c d
+pub turned-back : {n : ℕ} {s r : ℕ → ℕ} → Turning n s r → Turning n r s
+turned-back t = record { below = t .back-below; back-below = t .below; back = t .forth; forth = t .back }
+
+-- tests that hold together
+pub same-eqb : (a b c d : ℕ) → (a ≡ b → c ≡ d) → (c ≡ d → a ≡ b) → eqb a b ≡ eqb c d
 same-eqb a b c d f g = by (ℕ-discrete a b)
   where
     by : Dec (a ≡ b) → eqb a b ≡ eqb c d

@@ -1,5 +1,6 @@
 -- Counting what has different values. Assumes nothing.
---     counted                       where a count is not 0, one passes
+--     counted, some-counted         a count is not 0 where one passes, and only there
+--     and-both                      both parts of a conjunction that holds
 --     count-at-most-one             where no two pass
 --     sum-of-counts                 what passes, counted by its value
 --     at-most-the-values, onto      different values below m: at most m pass; where m pass, every value is met
@@ -25,6 +26,14 @@ counted (suc n) p l =
     (λ e. (n, omega arith, e))
     (λ e. let m = counted n p (let z : 0 < count n p + 0 = rw e at l in omega arith) in (m .0, omega (arith, m .1), m .2))
 
+pub some-counted : (n : ℕ) (p : ℕ → Bool) (k : ℕ) → k < n → p k ≡ true → 0 < count n p
+some-counted zero p k l e = absurd (not-suc-le-zero l)
+some-counted (suc n) p k l e = by (ℕ-discrete k n) (λ b. some-counted n p k b e)
+  where
+    by : Dec (k ≡ n) → (k < n → 0 < count n p) → 0 < count (suc n) p
+    by (yes q) ih = rw (ap p (sym q) ∙ e) (omega arith)
+    by (no q) ih = omega (arith, ih (omega (arith, q)))
+
 pub count-at-most-one : (n : ℕ) (p : ℕ → Bool) → ((i j : ℕ) → i < n → j < n → p i ≡ true → p j ≡ true → i ≡ j) → count n p ≤ 1
 count-at-most-one zero p u = omega arith
 count-at-most-one (suc n) p u =
@@ -44,7 +53,7 @@ all-ones (suc n) f b e k l = by (ℕ-discrete k n) (λ q. all-ones n f (λ i li.
     by (yes q) ih = ap f q ∙ last
     by (no q) ih = ih (omega (arith, q))
 
-and-both : (a b : Bool) → (a && b) ≡ true → (a ≡ true) × (b ≡ true)
+pub and-both : (a b : Bool) → (a && b) ≡ true → (a ≡ true) × (b ≡ true)
 and-both true b e = (refl, e)
 and-both false b e = absurd (true≢false (sym e))
 
