@@ -7,3 +7,8 @@ pub mod Soundness
 pub mod Stages
 pub mod Carriers
 pub mod RuleTests
+pub mod Turns
+pub mod Joined
+pub mod Fanned
+pub mod Accepted
+pub mod EdgeCount

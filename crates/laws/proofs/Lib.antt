@@ -6,3 +6,6 @@ pub mod Counts
 pub mod Bumped
 pub mod Parts
 pub mod EndToEnd
+pub mod Counting
+pub mod Pigeonhole
+pub mod Least

@@ -1,0 +1,47 @@
+-- The check's meaning, `meaning`: tables of right shape pass rules 3 to 7 exactly when the plain record of the rules
+-- holds. Assumes nothing.
+use Prim.Native.Nat.{ℕ}
+use mathlib.Core.Path.{_≡_, ap}
+use mathlib.Core.Logic.{_↔_}
+use mathlib.Core.Bool.{Bool}
+use native.Mathlib.Omega.{arith}
+use Rattle.halfedges.specs.Refusals.{Verdict, DONE, TWIN, VERTEX, UNUSED, EDGE, FAN, givenAt, first}
+use Rattle.halfedges.proofs.Checks.{Clean, clean-done, passed-clean, AllPassed, none, also, passed-all, all-passed-done}
+use Rattle.connectivity.specs.Tables.{Tables}
+use Rattle.connectivity.specs.Ruled.{Shaped, Ruled}
+use Rattle.connectivity.specs.Operations.{rules}
+use Rattle.connectivity.proofs.Meaning.{paired, clean-twins, placed, clean-vertices, used, clean-uses, numbered, clean-edges}
+use Rattle.connectivity.proofs.Fanned.{fanned, clean-fans}
+
+module _ (c : Tables) (v : ℕ) (s : Shaped c) where
+  pub ruled : first (rules c v) .number ≡ 0 → Ruled c v
+  unfolding rules
+  ruled e = by (passed-all _ e)
+    where
+      by : AllPassed (rules c v) → Ruled c v
+      by (also a (also b (also u (also d (also f none))))) =
+          let twins = paired (c .twin) (passed-clean _ _ TWIN (λ k. omega arith) a) in
+          let places = placed (c .twin) (c .vert) v (passed-clean _ _ VERTEX (λ k. omega arith) b) in
+          record {
+            paired = twins;
+            placed = places;
+            used = used (c .vert) v (passed-clean _ _ UNUSED (λ k. omega arith) u);
+            numbered = numbered (c .twin) (c .edge) (s .edge-long) (passed-clean _ _ EDGE (λ k. omega arith) d);
+            fanned = fanned (c .twin) (c .vert) v (s .whole) (s .vert-long) twins places (passed-clean _ _ FAN (λ k. omega arith) f);
+          }
+
+  passed : (n : ℕ) (bad : ℕ → Bool) (at : ℕ → Verdict) → Clean n bad → givenAt n bad at .number ≡ 0
+  passed n bad at f = ap (λ w. w .number) (clean-done n bad at f)
+
+  pub rules-done : Ruled c v → first (rules c v) ≡ DONE
+  unfolding rules
+  rules-done r =
+      all-passed-done
+      (also (passed _ _ TWIN (clean-twins (c .twin) (r .paired)))
+      (also (passed _ _ VERTEX (clean-vertices (c .twin) (c .vert) v (r .placed)))
+      (also (passed _ _ UNUSED (clean-uses (c .vert) v (r .used)))
+      (also (passed _ _ EDGE (clean-edges (c .twin) (c .edge) (s .edge-long) (r .numbered)))
+      (also (passed _ _ FAN (clean-fans (c .twin) (c .vert) v (s .whole) (s .vert-long) (r .paired) (r .fanned))) none)))))
+
+  pub meaning : (first (rules c v) ≡ DONE) ↔ Ruled c v
+  meaning = (λ e. ruled (ap (λ w. w .number) e), rules-done)
