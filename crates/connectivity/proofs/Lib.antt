@@ -7,6 +7,7 @@ pub mod Soundness
 pub mod Stages
 pub mod Carriers
 pub mod RuleTests
+pub mod TableChecks
 pub mod Turns
 pub mod Joined
 pub mod Fanned

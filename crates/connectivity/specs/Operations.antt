@@ -4,9 +4,10 @@ use mathlib.Core.List.{List, [], _∷_, _++_}
 use lib.ListN.{length, replicate}
 use Rattle.halfedges.specs.declared.table.HalfedgeTable.{HalfedgeTable}
 use Rattle.halfedges.specs.declared.table.Levels.{Levels}
+use Rattle.connectivity.specs.declared.check.Checked.{Checked}
 use Rattle.laws.specs.Below.{endToEnd}
 use Rattle.halfedges.specs.Cage.{F, E, B}
-use Rattle.halfedges.specs.Refusals.{Verdict, SHAPE, LIMIT, TWIN, VERTEX, UNUSED, EDGE, FAN, given, givenAt, short, first, Said, said, filled}
+use Rattle.halfedges.specs.Refusals.{Verdict, SHAPE, LIMIT, TWIN, VERTEX, UNUSED, EDGE, FAN, told, given, givenAt, short, first, Said, said, filled}
 use Rattle.halfedges.specs.Counts.{noLevels, roomH, aboveLimit, countQuestion}
 use Rattle.connectivity.specs.Tables.{Tables, tables, countsOf}
 use Rattle.connectivity.specs.Rules.{misshapen, badTwin, badVertex, unused, badEdge}
@@ -34,6 +35,18 @@ returned c v = length (c .twin) ∷ E (c .twin) ∷ F (length (c .twin)) ∷ v �
 -- the check 1 to 7, which has no depth
 unfoldable pub checkTables : Tables → ℕ → Said (List ℕ)
 checkTables c v = said (first (tableChecks c v 0)) (returned c v) (replicate 5 0)
+
+-- a refusal with v's number and place
+abbrev pub refusedCheck : Verdict → Said (List ℕ)
+refusedCheck v = record { verdict = v; values = replicate 5 0 }
+
+-- what the code's answer says
+abbrev pub checked : Checked → Said (List ℕ)
+checked r =
+    record {
+      verdict = told (r .answer);
+      values = r .halfedges ∷ r .edges ∷ r .triangles ∷ r .vertices ∷ r .borders ∷ [];
+    }
 
 -- 9 "first short one: 1 twin, 2 vert, 3 edge"
 unfoldable pub shortTables : ℕ → Tables → List Verdict

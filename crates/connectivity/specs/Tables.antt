@@ -16,9 +16,12 @@ pub record Tables : Type 0 where
 abbrev pub tables : List ℕ → List ℕ → List ℕ → Tables
 tables twin vert edge = record { twin = twin; vert = vert; edge = edge }
 
--- H, E and V, where V is handed over
+-- H and E of a twin table, with V as it is handed over
+abbrev pub countsFrom : List ℕ → ℕ → HalfedgeTable
+countsFrom twin v = record { halfedges = length twin; edges = E twin; vertices = v }
+
 abbrev pub countsOf : Tables → ℕ → HalfedgeTable
-countsOf c v = record { halfedges = length (c .twin); edges = E (c .twin); vertices = v }
+countsOf c v = countsFrom (c .twin) v
 
 -- halfedge h leaves vertex v: h is one of v's corners
 abbrev pub leaves : List ℕ → ℕ → ℕ → Bool

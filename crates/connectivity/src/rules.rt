@@ -161,10 +161,11 @@ pub fn count_borders(twin: &[u32]) -> usize
 }
 
 // Rule 6, where rule 3 is kept.
-pub fn check_edges(twin: &[u32], edge: &[u32], edges: usize) -> Answer
-    requires { ⌜ (Paired (now twin)) × (length (now edge) ≡ length (now twin)) × (length (now twin) ≤ most-halfedges) × (edges ≡ E (now twin)) ⌝ }
-    ensures { λ r. ⌜ told r ≡ givenAt (length (now (twin .entry))) (badEdge (now (twin .entry)) (now (edge .entry)) edges) EDGE ⌝ }
+pub fn check_edges(twin: &[u32], edge: &[u32]) -> Answer
+    requires { ⌜ (Paired (now twin)) × (length (now edge) ≡ length (now twin)) × (length (now twin) ≤ most-halfedges) ⌝ }
+    ensures { λ r. ⌜ told r ≡ givenAt (length (now (twin .entry))) (badEdge (now (twin .entry)) (now (edge .entry)) (E (now (twin .entry)))) EDGE ⌝ }
 {
+    let edges = count_edges(twin);
     let mut carriers = [0u32; 3072];
     count_numbers(edge, &mut carriers);
     first_bad_edge(&carriers, twin, edge, edges)

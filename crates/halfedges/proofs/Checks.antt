@@ -55,3 +55,23 @@ passed-all (v ∷ vs) e = by (ℕ-discrete (v .number) 0) (λ q. passed-all vs (
     by : Dec (v .number ≡ 0) → (v .number ≡ 0 → AllPassed vs) → AllPassed (v ∷ vs)
     by (yes q) rest = also q (rest q)
     by (no q) rest = absurd (q (ap (λ w. w .number) (sym (first-refused v vs q)) ∙ e))
+
+-- the same as the code goes: an answer a tells a verdict v, and n is its number
+module _ {a v : Verdict} {n : ℕ} (e : a ≡ v) (m : n ≡ a .number) where
+  pub number-zero : n ≡ 0 → v .number ≡ 0
+  number-zero z = ap (λ w. w .number) (sym e) ∙ sym m ∙ z
+
+  pub answered : (vs : List Verdict) → n ≢ 0 → a ≡ first (v ∷ vs)
+  answered vs r = e ∙ sym (first-refused v vs (λ z. r (m ∙ ap (λ w. w .number) e ∙ z)))
+
+  pub passed-on : (vs : List Verdict) → n ≡ 0 → first vs ≡ first (v ∷ vs)
+  passed-on vs z = sym (first-passed v vs (number-zero z))
+
+-- a list of one check
+pub given-alone : (n : ℕ) (bad : ℕ → Bool) (at : ℕ → Verdict) → ((k : ℕ) → at k .number ≢ 0) → givenAt n bad at ≡ first (givenAt n bad at ∷ [])
+unfolding first
+given-alone n bad at r = by (ℕ-discrete (givenAt n bad at .number) 0)
+  where
+    by : Dec (givenAt n bad at .number ≡ 0) → givenAt n bad at ≡ first (givenAt n bad at ∷ [])
+    by (yes z) = clean-done n bad at (passed-clean n bad at r z) ∙ sym (first-passed (givenAt n bad at) [] z)
+    by (no z) = sym (first-refused (givenAt n bad at) [] z)

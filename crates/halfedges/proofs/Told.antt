@@ -7,7 +7,7 @@ use Rattle.halfedges.specs.declared.answer.Answer.{Answer}
 use Rattle.halfedges.specs.declared.answer.Answer.the-variants.{Done, Shape, Limit, Twin, Vertex, Unused, Edge, Fan, Point, Room, Short, Field, Extra}
 use Rattle.halfedges.specs.declared.table.Counted.{Counted}
 use Rattle.halfedges.specs.declared.corners.Corners.{Corners}
-use Rattle.halfedges.specs.Refusals.{Verdict, told}
+use Rattle.halfedges.specs.Refusals.{Verdict, DONE, told}
 use Rattle.halfedges.specs.Counts.{counted}
 use Rattle.halfedges.specs.Corners.{cornered}
 
@@ -50,6 +50,11 @@ back-told (Extra o) = refl
 
 pub told-alike : (a b : Answer) → told a ≡ told b → a ≡ b
 told-alike a b e = sym (back-told a) ∙ ap back e ∙ back-told b
+
+-- number 0 is done
+pub zero-done : (a : Answer) → told a .number ≡ 0 → told a ≡ DONE
+unfolding back
+zero-done a z = let e : back (told a) ≡ Done = rw z in ap told (sym (back-told a) ∙ e)
 
 pub counted-alike : (a b : Counted) → counted a ≡ counted b → a ≡ b
 counted-alike a b e = λ i. record { answer = told-alike (a .answer) (b .answer) (λ j. e j .verdict) i; levels = e i .values }

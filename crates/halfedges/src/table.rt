@@ -161,7 +161,8 @@ pub struct Counted {
 }
 
 impl Counted {
-    fn refused(answer: Answer) -> Counted
+    // A refusal: besides number and place everything is zero.
+    pub fn refused(answer: Answer) -> Counted
         ensures { λ r. ⌜ counted r ≡ refusedCount (told answer) ⌝ }
     {
         let levels = Levels::none();
