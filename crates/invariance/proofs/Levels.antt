@@ -16,7 +16,6 @@ use Rattle.connectivity.specs.Tables.{Tables, countsOf}
 use Rattle.connectivity.specs.Ruled.{Shaped, Ruled}
 use Rattle.connectivity.specs.NextLevel.{next, level}
 use Rattle.connectivity.specs.Operations.{tableChecks}
-use Rattle.connectivity.proofs.Meaning.{shaped}
 use Rattle.connectivity.proofs.Accepted.{rules-done, whole-meaning}
 use Rattle.invariance.specs.Invariance.{verticesIn, Added, Invariant}
 use Rattle.invariance.proofs.Refinable.{H}
