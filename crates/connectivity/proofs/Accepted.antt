@@ -1,16 +1,19 @@
--- The check's meaning, `meaning`: tables of right shape pass rules 3 to 7 exactly when the plain record of the rules
--- holds. Assumes nothing.
+-- The check's meaning. Tables of right shape pass rules 3 to 7 exactly when the plain record of the rules holds:
+-- `meaning`, or one way each `ruled` and `rules-done`. Any tables pass 1 to 7 exactly when they have the right shape,
+-- are within the limits and the record holds: `whole-meaning`. Assumes nothing.
 use Prim.Native.Nat.{ℕ}
-use mathlib.Core.Path.{_≡_, ap}
-use mathlib.Core.Logic.{_↔_}
-use mathlib.Core.Bool.{Bool}
+use mathlib.Core.Path.{_≡_, refl, ap}
+use mathlib.Core.Logic.{_≢_, _↔_}
+use mathlib.Core.Bool.{Bool, true, false}
 use native.Mathlib.Omega.{arith}
-use Rattle.halfedges.specs.Refusals.{Verdict, DONE, TWIN, VERTEX, UNUSED, EDGE, FAN, givenAt, first}
+use lib.ListN.{length}
+use Rattle.halfedges.specs.Refusals.{Verdict, DONE, SHAPE, LIMIT, TWIN, VERTEX, UNUSED, EDGE, FAN, given, givenAt, first}
+use Rattle.halfedges.specs.Counts.{aboveLimit}
 use Rattle.halfedges.proofs.Checks.{Clean, clean-done, passed-clean, AllPassed, none, also, passed-all, all-passed-done}
 use Rattle.connectivity.specs.Tables.{Tables}
 use Rattle.connectivity.specs.Ruled.{Shaped, Ruled}
-use Rattle.connectivity.specs.Operations.{rules}
-use Rattle.connectivity.proofs.Meaning.{paired, clean-twins, placed, clean-vertices, used, clean-uses, numbered, clean-edges}
+use Rattle.connectivity.specs.Operations.{rules, tableChecks}
+use Rattle.connectivity.proofs.Meaning.{shaped, well-shaped, paired, clean-twins, placed, clean-vertices, used, clean-uses, numbered, clean-edges}
 use Rattle.connectivity.proofs.Fanned.{fanned, clean-fans}
 
 module _ (c : Tables) (v : ℕ) (s : Shaped c) where
@@ -33,15 +36,40 @@ module _ (c : Tables) (v : ℕ) (s : Shaped c) where
   passed : (n : ℕ) (bad : ℕ → Bool) (at : ℕ → Verdict) → Clean n bad → givenAt n bad at .number ≡ 0
   passed n bad at f = ap (λ w. w .number) (clean-done n bad at f)
 
-  pub rules-done : Ruled c v → first (rules c v) ≡ DONE
+  rules-passed : Ruled c v → AllPassed (rules c v)
   unfolding rules
-  rules-done r =
-      all-passed-done
-      (also (passed _ _ TWIN (clean-twins (c .twin) (r .paired)))
+  rules-passed r =
+      also (passed _ _ TWIN (clean-twins (c .twin) (r .paired)))
       (also (passed _ _ VERTEX (clean-vertices (c .twin) (c .vert) v (r .placed)))
       (also (passed _ _ UNUSED (clean-uses (c .vert) v (r .used)))
       (also (passed _ _ EDGE (clean-edges (c .twin) (c .edge) (s .edge-long) (r .numbered)))
-      (also (passed _ _ FAN (clean-fans (c .twin) (c .vert) v (s .whole) (s .vert-long) (r .paired) (r .fanned))) none)))))
+      (also (passed _ _ FAN (clean-fans (c .twin) (c .vert) v (s .whole) (s .vert-long) (r .paired) (r .fanned))) none))))
+
+  pub rules-done : Ruled c v → first (rules c v) ≡ DONE
+  rules-done r = all-passed-done (rules-passed r)
 
   pub meaning : (first (rules c v) ≡ DONE) ↔ Ruled c v
   meaning = (λ e. ruled (ap (λ w. w .number) e), rules-done)
+
+-- a check is passed exactly where it is not given
+is-passed : (test : Bool) (w : Verdict) → test ≡ false → given test w .number ≡ 0
+unfolding given
+is-passed test w e = rw e
+
+not-given : (test : Bool) (w : Verdict) → w .number ≢ 0 → given test w .number ≡ 0 → test ≡ false
+unfolding given
+not-given true w n e = absurd (n e)
+not-given false w n e = refl
+
+module _ (c : Tables) (v depth : ℕ) where
+  pub whole-meaning : (first (tableChecks c v depth) ≡ DONE) ↔ (Shaped c × (aboveLimit (length (c .twin)) v depth ≡ false) × Ruled c v)
+  unfolding tableChecks
+  whole-meaning = (λ e. parts (passed-all _ (ap (λ w. w .number) e)), λ p. all-passed-done (whole (p .0) (p .1) (p .2)))
+    where
+      parts : AllPassed (tableChecks c v depth) → Shaped c × (aboveLimit (length (c .twin)) v depth ≡ false) × Ruled c v
+      parts (also a (also b rest)) =
+          let s = shaped c (not-given _ SHAPE (omega arith) a) in
+          (s, not-given _ LIMIT (omega arith) b, ruled c v s (ap (λ w. w .number) (all-passed-done rest)))
+
+      whole : Shaped c → aboveLimit (length (c .twin)) v depth ≡ false → Ruled c v → AllPassed (tableChecks c v depth)
+      whole s l r = also (is-passed _ SHAPE (well-shaped c s)) (also (is-passed _ LIMIT l) (rules-passed c v s r))

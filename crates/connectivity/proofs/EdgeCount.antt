@@ -4,8 +4,9 @@
 --     partner, pairing             the twin, or where there is none the halfedge itself: a turning
 --     twice-edges                  2E = H + B by rule 3, since TWIN pairs all halfedges but those on the border
 --     carried                      with rule 6 every edge number below E is carried: those that stand above carry E different ones
+--     count-shaped                 the counts of tables that pass the rules have the shape that the count question wants
 -- Assumes nothing.
-use Prim.Native.Nat.{ℕ, _+_, _*_, _≤_, _<_}
+use Prim.Native.Nat.{ℕ, _+_, _*_, _%_, _≤_, _<_}
 use mathlib.Core.Path.{_≡_, refl, sym, ap, _∙_}
 use mathlib.Core.Logic.{_≢_, _⊎_, inl, inr}
 use mathlib.Core.Bool.{Bool, true, false, cond, not, true≢false}
@@ -16,9 +17,11 @@ use lib.Dec.{ltb}
 use lib.ListN.{length}
 use borrow.Author.Tests.{eq-eqb, ne-eqb, lt-ltb, le-ltb}
 use Rattle.laws.proofs.Counting.{sum-ext, sum-add, sum-ones, sum-turned, Turning}
-use Rattle.laws.proofs.Pigeonhole.{onto}
+use Rattle.laws.proofs.Pigeonhole.{count-at-most, onto}
 use Rattle.halfedges.specs.Cage.{marker, cell, border, above, E, B}
-use Rattle.connectivity.specs.Ruled.{Paired, Numbered}
+use Rattle.halfedges.specs.Counts.{countShape}
+use Rattle.connectivity.specs.Tables.{Tables, countsOf}
+use Rattle.connectivity.specs.Ruled.{Shaped, Paired, Numbered, Ruled}
 
 pub above-border : (twin : List ℕ) (h : ℕ) → cell twin h ≡ marker → above twin h ≡ true
 unfolding above
@@ -109,3 +112,15 @@ module _ (twin : List ℕ) (small : length twin ≤ marker) (p : Paired twin) wh
           by (inl x) d = x
           by (inr x) (yes m) = absurd (omega arith)
           by (inr x) (no n) = absurd (true≢false (sym a ∙ ap (above twin) x ∙ above-twin h lh n ∙ ap not b))
+
+pub count-shaped : (c : Tables) (v : ℕ) → Shaped c → Ruled c v → length (c .twin) ≤ marker → countShape (countsOf c v) ≡ false
+unfolding countShape E
+count-shaped c v s r small =
+    let edges = twice-edges (c .twin) small (r .paired) in
+    rw (
+      ne-eqb (length (c .twin)) 0 (λ e. omega (arith, s .some)),
+      eq-eqb (length (c .twin) % 3) 0 (s .whole),
+      ne-eqb v 0 (λ e. omega (arith, r .placed .below 0 (s .some))),
+      le-ltb (length (c .twin)) (E (c .twin)) (count-at-most (length (c .twin)) (above (c .twin))),
+      le-ltb (2 * E (c .twin)) (length (c .twin)) (omega arith),
+    )

@@ -76,16 +76,13 @@ module _ (twin : List ℕ) where
       (λ m. let r = met-run n (link twin g) h (rw (q, m) at e) in (suc (r .0), longer g h (r .0) (eqb-false _ _ m) (r .1))))
 
 module _ (twin : List ℕ) (whole : length twin % 3 ≡ 0) (p : Paired twin) where
-  prev-in : (h : ℕ) → h < length twin → PREV h < length twin
-  prev-in = prev-below (length twin) whole
-
   link-below : (h : ℕ) → h < length twin → link twin h ≢ marker → link twin h < length twin
-  link-below h l e = p .below (PREV h) (prev-in h l) e
+  link-below h l e = p .below (PREV h) (prev-below whole l) e
 
   link-one : (g h : ℕ) → g < length twin → h < length twin → link twin h ≢ marker → link twin g ≡ link twin h → g ≡ h
   link-one g h lg lh e q =
       sym (next-prev g)
-      ∙ ap NEXT (sym (p .back (PREV g) (prev-in g lg) (λ m. e (sym q ∙ m))) ∙ ap (cell twin) q ∙ p .back (PREV h) (prev-in h lh) e)
+      ∙ ap NEXT (sym (p .back (PREV g) (prev-below whole lg) (λ m. e (sym q ∙ m))) ∙ ap (cell twin) q ∙ p .back (PREV h) (prev-below whole lh) e)
       ∙ next-prev h
 
   walk-below : (g h n : ℕ) → g < length twin → Run twin g h n → (i : ℕ) → i ≤ n → walk twin g i < length twin
@@ -176,7 +173,7 @@ module _ (twin : List ℕ) (whole : length twin % 3 ≡ 0) (p : Paired twin) whe
   border-start small g h zero l m r = r .ends
   border-start small g h (suc n) l m r =
       let x = walk twin g n in
-      let lx = prev-in x (walk-below g h (suc n) l r n (omega arith)) in
+      let lx = prev-below whole (walk-below g h (suc n) l r n (omega arith)) in
       let e : PREV x ≡ marker = sym (p .back (PREV x) lx (r .goes n (omega arith))) ∙ ap (cell twin) (r .ends) ∙ m in
       absurd (omega arith)
 

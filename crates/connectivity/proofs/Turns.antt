@@ -82,15 +82,15 @@ next-prev = by-third (λ h. NEXT (PREV h) ≡ h) (λ q. simp turns) (λ q. simp 
 pub next-next : (h : ℕ) → NEXT (NEXT h) ≡ PREV h
 next-next = by-third (λ h. NEXT (NEXT h) ≡ PREV h) (λ q. simp turns) (λ q. simp turns) (λ q. simp turns)
 
-module _ (n : ℕ) (whole : n % 3 ≡ 0) where
-  pub next-below : (h : ℕ) → h < n → NEXT h < n
-  next-below = by-third (λ h. h < n → NEXT h < n) (λ q l. simp turns (omega arith)) (λ q l. simp turns (omega arith)) (λ q l. simp turns (omega arith))
+module _ {n : ℕ} (whole : n % 3 ≡ 0) where
+  pub next-below : {h : ℕ} → h < n → NEXT h < n
+  next-below {h} = by-third (λ h. h < n → NEXT h < n) (λ q l. simp turns (omega arith)) (λ q l. simp turns (omega arith)) (λ q l. simp turns (omega arith)) h
 
-  pub prev-below : (h : ℕ) → h < n → PREV h < n
-  prev-below = by-third (λ h. h < n → PREV h < n) (λ q l. simp turns (omega arith)) (λ q l. simp turns (omega arith)) (λ q l. simp turns (omega arith))
+  pub prev-below : {h : ℕ} → h < n → PREV h < n
+  prev-below {h} = by-third (λ h. h < n → PREV h < n) (λ q l. simp turns (omega arith)) (λ q l. simp turns (omega arith)) (λ q l. simp turns (omega arith)) h
 
   pub round : Turning n NEXT PREV
-  round = record { below = next-below; back-below = prev-below; back = λ h l. prev-next h; forth = λ h l. next-prev h }
+  round = record { below = λ h l. next-below l; back-below = λ h l. prev-below l; back = λ h l. prev-next h; forth = λ h l. next-prev h }
 
 pub next-past : (n h : ℕ) → NEXT (3 * n + h) ≡ 3 * n + NEXT h
 next-past n =

@@ -1,8 +1,10 @@
 pub mod Rows
+pub mod Refinable
 pub mod NextTwins
 pub mod NextVertices
 pub mod NextEdges
 pub mod NextFans
 pub mod NextCorners
 pub mod VertexCount
+pub mod NextLevel
 pub mod Levels

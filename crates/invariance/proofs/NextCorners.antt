@@ -1,205 +1,171 @@
--- Corners at the next level's vertices, from tables that pass the rules and whose next level has at most as many
--- halfedges as the marker.
---     old-corners              an old vertex keeps its corners
---     old-on-border, still-on-border     and is on a border where it was
---     new-vertex               an edge's vertex has six corners inside and three on a border
+-- Corners at the next level's vertices.
+--     old-corners                        an old vertex keeps its corners
+--     was-on-border, still-on-border     and is on a border where it was
+--     new-vertex                         an edge's vertex has six corners inside and three on a border
 -- Assumes nothing.
 use Prim.Native.Nat.{ℕ, _+_, _-_, _*_, _≤_, _<_}
-use mathlib.Core.Path.{_≡_, refl, sym, ap, ap₂, subst, _∙_}
-use mathlib.Core.Logic.{_≢_, _⊎_, inl, inr}
+use mathlib.Core.Path.{_≡_, sym, ap, ap₂, subst, _∙_}
+use mathlib.Core.Logic.{_≢_, _⊎_, inl, inr, ⊎-elim}
 use mathlib.Core.Bool.{cond}
 use native.Mathlib.Decide.{ℕ-discrete}
 use native.Mathlib.Omega.{arith}
 use lib.Dec.{eqb}
-use lib.ListN.{length}
 use borrow.Author.Tests.{eq-eqb, ne-eqb}
 use Rattle.laws.specs.Below.{sum, count}
 use Rattle.laws.proofs.Counting.{sum-ext, sum-add, sum-none, sum-at, sum-turned, turned-back, same-eqb}
-use Rattle.halfedges.specs.Cage.{NEXT, PREV, marker, cell, E}
-use Rattle.connectivity.specs.Tables.{Tables, countsOf, leaves}
-use Rattle.connectivity.specs.Ruled.{Shaped, Ruled}
-use Rattle.connectivity.specs.NextLevel.{next, nextTwins}
-use Rattle.connectivity.proofs.Turns.{next-0, next-2, prev-below, prev-next, next-prev, next-below, round}
+use Rattle.halfedges.specs.Cage.{NEXT, PREV, marker, E}
+use Rattle.connectivity.specs.Tables.{Tables}
+use Rattle.connectivity.proofs.Turns.{next-0, next-2, prev-next, next-prev, round}
 use Rattle.connectivity.proofs.EdgeCount.{carried}
 use Rattle.invariance.specs.Invariance.{cornersAt, OnBorder, Added}
-use Rattle.invariance.proofs.Rows.{by-row, sum-rows}
-use Rattle.invariance.proofs.NextTwins.{length-twins, out-border, home-border, out-on-border, across-inner, home-on-border, middle-inner}
-use Rattle.invariance.proofs.NextVertices.{newVerts, new-verts}
+use Rattle.invariance.proofs.Rows.{Row, out, across, home, middle, row-of, sum-rows}
+use Rattle.invariance.proofs.Refinable.{H, TWIN, VERT, EDGE, finer, Refinable, next-in, prev-in, length-twins, vert-rows}
+use Rattle.invariance.proofs.NextTwins.{out-border, home-border, out-on-border, across-inner, home-on-border, middle-inner}
 
--- the tables of the level after c
-abbrev pub finerTables : Tables → ℕ → Tables
-finerTables c v = next (countsOf c v) c
+-- one where x is u
+abbrev one : ℕ → ℕ → ℕ
+one u x = cond (eqb x u) 1 0
 
-module _ (c : Tables) (v : ℕ) (s : Shaped c) (r : Ruled c v) (small : 4 * length (c .twin) ≤ marker) where
-  prev-in : (h : ℕ) → h < length (c .twin) → PREV h < length (c .twin)
-  prev-in = prev-below (length (c .twin)) (s .whole)
-
-  -- ---- counts
-
-  -- one where x is u
-  abbrev one : ℕ → ℕ → ℕ
-  one u x = cond (eqb x u) 1 0
-
-  -- the new corners at u: in h's new triangle, and of h's in the middle
+module _ {c : Tables} {v : ℕ} (q : Refinable c v) where
+  -- the new corners at u: in the new triangle at h's vertex, and in the middle
   abbrev outer : ℕ → ℕ → ℕ
-  outer u h = one u (cell (c .vert) h) + one u (v + cell (c .edge) h) + one u (v + cell (c .edge) (PREV h))
+  outer u h = one u (VERT c h) + one u (v + EDGE c h) + one u (v + EDGE c (PREV h))
 
   abbrev inner : ℕ → ℕ → ℕ
-  inner u h = one u (v + cell (c .edge) (PREV h))
+  inner u h = one u (v + EDGE c (PREV h))
 
-  by-rows : (u : ℕ) → cornersAt (finerTables c v) u ≡ sum (length (c .twin)) (outer u) + sum (length (c .twin)) (inner u)
+  by-rows : (u : ℕ) → cornersAt (finer c v) u ≡ sum (H c) (outer u) + sum (H c) (inner u)
   unfolding cornersAt
   by-rows u =
-      rw (length-twins (c .twin))
-      (sum-rows (length (c .twin)) (λ k. one u (cell (newVerts c v) k))
+      rw (length-twins q)
+      (sum-rows (H c) (λ k. one u (VERT (finer c v) k))
       ∙ ap₂ _+_
-      (sum-ext (length (c .twin)) _ (outer u) (λ h l. let n = new-verts c v s in ap₂ _+_ (ap₂ _+_ (ap (one u) (n .out h l)) (ap (one u) (n .across h l))) (ap (one u) (n .home h l))))
-      (sum-ext (length (c .twin)) _ (inner u) (λ h l. ap (one u) (new-verts c v s .middle h l))))
+      (sum-ext (H c) _ (outer u) (λ h l. ap₂ _+_ (ap₂ _+_ (ap (one u) (vert-rows q .out l)) (ap (one u) (vert-rows q .across l))) (ap (one u) (vert-rows q .home l))))
+      (sum-ext (H c) _ (inner u) (λ h l. ap (one u) (vert-rows q .middle l))))
 
-  pub old-corners : (u : ℕ) → u < v → cornersAt (finerTables c v) u ≡ cornersAt c u
+  pub old-corners : (u : ℕ) → u < v → cornersAt (finer c v) u ≡ cornersAt c u
   unfolding cornersAt
   old-corners u l =
       by-rows u
       ∙ omega (
         arith,
-        sum-ext (length (c .twin)) (outer u) (λ h. one u (cell (c .vert) h))
-            (λ h lh. rw (ne-eqb (v + cell (c .edge) h) u (omega arith), ne-eqb (v + cell (c .edge) (PREV h)) u (omega arith)) (omega arith)),
-        sum-none (length (c .twin)) (inner u) (λ h lh. rw (ne-eqb (v + cell (c .edge) (PREV h)) u (omega arith))),
+        sum-ext (H c) (outer u) (λ h. one u (VERT c h)) (λ h lh. rw (ne-eqb (v + EDGE c h) u (omega arith), ne-eqb (v + EDGE c (PREV h)) u (omega arith)) (omega arith)),
+        sum-none (H c) (inner u) (λ h lh. rw (ne-eqb (v + EDGE c (PREV h)) u (omega arith))),
       )
 
+  -- the halfedges that carry e
   carriers : ℕ → ℕ
-  carriers e = count (length (c .twin)) (λ h. eqb (cell (c .edge) h) e)
+  carriers e = count (H c) (λ h. eqb (EDGE c h) e)
 
-  new-corners : (e : ℕ) → cornersAt (finerTables c v) (v + e) ≡ 3 * carriers e
+  new-corners : (e : ℕ) → cornersAt (finer c v) (v + e) ≡ 3 * carriers e
   unfolding carriers
   new-corners e =
       by-rows (v + e)
       ∙ omega (
         arith,
-        sum-ext (length (c .twin)) (outer (v + e)) (λ h. carries h + carries (PREV h))
-            (λ h l. rw (ne-eqb (cell (c .vert) h) (v + e) (omega (arith, r .placed .below h l)), past (cell (c .edge) h), past (cell (c .edge) (PREV h))) (omega arith)),
-        sum-add (length (c .twin)) carries (λ h. carries (PREV h)),
-        sum-ext (length (c .twin)) (inner (v + e)) (λ h. carries (PREV h)) (λ h l. rw (past (cell (c .edge) (PREV h)))),
-        sum-turned (length (c .twin)) PREV NEXT carries (turned-back (round (length (c .twin)) (s .whole))),
+        sum-ext (H c) (outer (v + e)) (λ h. carries h + carries (PREV h))
+            (λ h l. rw (ne-eqb (VERT c h) (v + e) (omega (arith, q .ruled .placed .below h l)), past (EDGE c h), past (EDGE c (PREV h))) (omega arith)),
+        sum-add (H c) carries (λ h. carries (PREV h)),
+        sum-ext (H c) (inner (v + e)) (λ h. carries (PREV h)) (λ h l. rw (past (EDGE c (PREV h)))),
+        sum-turned (H c) PREV NEXT carries (turned-back (round (q .shaped .whole))),
       )
     where
       carries : ℕ → ℕ
-      carries h = one e (cell (c .edge) h)
+      carries h = one e (EDGE c h)
 
       past : (x : ℕ) → eqb (v + x) (v + e) ≡ eqb x e
       past x = same-eqb (v + x) (v + e) x e (omega arith) (omega arith)
 
-  module _ (h : ℕ) (l : h < length (c .twin)) where
-    border-corners : cell (c .twin) h ≡ marker → cornersAt (finerTables c v) (v + cell (c .edge) h) ≡ 3
+  module _ {h : ℕ} (l : h < H c) where
+    border-corners : TWIN c h ≡ marker → cornersAt (finer c v) (v + EDGE c h) ≡ 3
     unfolding carriers
     border-corners m =
-        new-corners (cell (c .edge) h)
+        new-corners (EDGE c h)
         ∙ omega (
           arith,
-          sum-ext (length (c .twin)) (λ g. cond (eqb (cell (c .edge) g) (cell (c .edge) h)) 1 0) (λ g. cond (eqb g h) 1 0)
-              (λ g lg. rw (same-eqb (cell (c .edge) g) (cell (c .edge) h) g h (λ e. alone g lg (r .numbered .own g h lg l e)) (λ e. ap (cell (c .edge)) e))),
-          sum-at (length (c .twin)) h (λ g. 1) l,
+          sum-ext (H c) (λ g. one (EDGE c h) (EDGE c g)) (one h)
+              (λ g lg. rw (same-eqb (EDGE c g) (EDGE c h) g h (λ e. alone g lg (q .ruled .numbered .own g h lg l e)) (λ e. ap (EDGE c) e))),
+          sum-at (H c) h (λ g. 1) l,
         )
       where
-        alone : (g : ℕ) → g < length (c .twin) → (g ≡ h) ⊎ (g ≡ cell (c .twin) h) → g ≡ h
-        alone g lg (inl q) = q
-        alone g lg (inr q) = absurd (omega arith)
+        alone : (g : ℕ) → g < H c → (g ≡ h) ⊎ (g ≡ TWIN c h) → g ≡ h
+        alone g lg (inl i) = i
+        alone g lg (inr i) = absurd (omega arith)
 
-    inner-corners : cell (c .twin) h ≢ marker → cornersAt (finerTables c v) (v + cell (c .edge) h) ≡ 6
+    inner-corners : TWIN c h ≢ marker → cornersAt (finer c v) (v + EDGE c h) ≡ 6
     unfolding carriers
     inner-corners n =
-        new-corners (cell (c .edge) h)
+        new-corners (EDGE c h)
         ∙ omega (
           arith,
-          sum-ext (length (c .twin)) (λ g. cond (eqb (cell (c .edge) g) (cell (c .edge) h)) 1 0) (λ g. cond (eqb g h) 1 0 + cond (eqb g (cell (c .twin) h)) 1 0)
-              (λ g lg. both g lg (ℕ-discrete g h) (ℕ-discrete g (cell (c .twin) h))),
-          sum-add (length (c .twin)) (λ g. cond (eqb g h) 1 0) (λ g. cond (eqb g (cell (c .twin) h)) 1 0),
-          sum-at (length (c .twin)) h (λ g. 1) l,
-          sum-at (length (c .twin)) (cell (c .twin) h) (λ g. 1) (r .paired .below h l n),
+          sum-ext (H c) (λ g. one (EDGE c h) (EDGE c g)) (λ g. one h g + one (TWIN c h) g) (λ g lg. both g lg (ℕ-discrete g h) (ℕ-discrete g (TWIN c h))),
+          sum-add (H c) (one h) (one (TWIN c h)),
+          sum-at (H c) h (λ g. 1) l,
+          sum-at (H c) (TWIN c h) (λ g. 1) (q .ruled .paired .below h l n),
         )
       where
-        both :
-            (g : ℕ) → g < length (c .twin) → Dec (g ≡ h) → Dec (g ≡ cell (c .twin) h)
-            → cond (eqb (cell (c .edge) g) (cell (c .edge) h)) 1 0 ≡ cond (eqb g h) 1 0 + cond (eqb g (cell (c .twin) h)) 1 0
-        both g lg (yes p) (yes q) = absurd (r .paired .other h l n (sym q ∙ p))
-        both g lg (yes p) (no q) = rw (eq-eqb (cell (c .edge) g) (cell (c .edge) h) (ap (cell (c .edge)) p), eq-eqb g h p, ne-eqb g (cell (c .twin) h) q)
-        both g lg (no p) (yes q) =
-            rw (eq-eqb (cell (c .edge) g) (cell (c .edge) h) (ap (cell (c .edge)) q ∙ r .numbered .twin-same h l n), ne-eqb g h p, eq-eqb g (cell (c .twin) h) q)
-        both g lg (no p) (no q) =
-            rw (ne-eqb (cell (c .edge) g) (cell (c .edge) h) (λ e. neither (r .numbered .own g h lg l e)), ne-eqb g h p, ne-eqb g (cell (c .twin) h) q)
-          where
-            neither : (g ≡ h) ⊎ (g ≡ cell (c .twin) h) → ⊥
-            neither (inl e) = p e
-            neither (inr e) = q e
+        both : (g : ℕ) → g < H c → Dec (g ≡ h) → Dec (g ≡ TWIN c h) → one (EDGE c h) (EDGE c g) ≡ one h g + one (TWIN c h) g
+        both g lg (yes i) (yes j) = absurd (q .ruled .paired .other h l n (sym j ∙ i))
+        both g lg (yes i) (no j) = rw (eq-eqb (EDGE c g) (EDGE c h) (ap (EDGE c) i), eq-eqb g h i, ne-eqb g (TWIN c h) j)
+        both g lg (no i) (yes j) =
+            rw (eq-eqb (EDGE c g) (EDGE c h) (ap (EDGE c) j ∙ q .ruled .numbered .twin-same h l n), ne-eqb g h i, eq-eqb g (TWIN c h) j)
+        both g lg (no i) (no j) =
+            rw (ne-eqb (EDGE c g) (EDGE c h) (λ e. ⊎-elim i j (q .ruled .numbered .own g h lg l e)), ne-eqb g h i, ne-eqb g (TWIN c h) j)
 
   -- ---- the border
 
-  -- a border halfedge p of the old level starts at u, ends there, or has its edge's vertex there
+  -- a border halfedge p of the old level leaves u, ends there, or has its edge's vertex there
   data Came (u : ℕ) : Type 0 where
-    came : (p : ℕ) → p < length (c .twin) → cell (c .twin) p ≡ marker → (cell (c .vert) p ≡ u) ⊎ ((cell (c .vert) (NEXT p) ≡ u) ⊎ (v + cell (c .edge) p ≡ u)) → Came u
+    leaving : {p : ℕ} → p < H c → TWIN c p ≡ marker → VERT c p ≡ u → Came u
+    ending : {p : ℕ} → p < H c → TWIN c p ≡ marker → VERT c (NEXT p) ≡ u → Came u
+    amid : {p : ℕ} → p < H c → TWIN c p ≡ marker → v + EDGE c p ≡ u → Came u
 
-  border-came : (u : ℕ) → OnBorder (finerTables c v) u → Came u
-  border-came u b =
-      by-row (length (c .twin))
-      (λ k. cell (nextTwins (c .twin)) k ≡ marker → (cell (newVerts c v) k ≡ u) ⊎ (cell (newVerts c v) (NEXT k) ≡ u) → Came u)
-      (λ h l m e. came h l (out-on-border (c .twin) (s .whole) small (r .paired) h l m) (out h l e))
-      (λ h l m e. absurd (across-inner (c .twin) (s .whole) small (r .paired) h l m))
-      (λ h l m e. came (PREV h) (prev-in h l) (home-on-border (c .twin) (s .whole) small (r .paired) h l m) (home h l e))
-      (λ h l m e. absurd (middle-inner (c .twin) (s .whole) small (r .paired) h l m))
-      (b .0) (rw (length-twins (c .twin)) at (b .1)) (b .2) (b .3)
-    where
-      out :
-          (h : ℕ) → h < length (c .twin) → (cell (newVerts c v) (3 * h) ≡ u) ⊎ (cell (newVerts c v) (NEXT (3 * h)) ≡ u)
-          → (cell (c .vert) h ≡ u) ⊎ ((cell (c .vert) (NEXT h) ≡ u) ⊎ (v + cell (c .edge) h ≡ u))
-      out h l (inl e) = inl (sym (new-verts c v s .out h l) ∙ e)
-      out h l (inr e) = inr (inr (sym (new-verts c v s .across h l) ∙ (rw (next-0 h) at e)))
+  came : {u k : ℕ} → Row (H c) k → TWIN (finer c v) k ≡ marker → (VERT (finer c v) k ≡ u) ⊎ (VERT (finer c v) (NEXT k) ≡ u) → Came u
+  came (out l) m (inl e) = leaving l (out-on-border q l m) (sym (vert-rows q .out l) ∙ e)
+  came (out {h} l) m (inr e) = amid l (out-on-border q l m) (sym (vert-rows q .across l) ∙ (rw (next-0 h) at e))
+  came (across l) m e = absurd (across-inner q l m)
+  came (home l) m (inl e) = amid (prev-in q l) (home-on-border q l m) (sym (vert-rows q .home l) ∙ e)
+  came (home {h} l) m (inr e) = ending (prev-in q l) (home-on-border q l m) (ap (VERT c) (next-prev h) ∙ sym (vert-rows q .out l) ∙ (rw (next-2 h) at e))
+  came (middle l) m e = absurd (middle-inner q l m)
 
-      home :
-          (h : ℕ) → h < length (c .twin) → (cell (newVerts c v) (3 * h + 2) ≡ u) ⊎ (cell (newVerts c v) (NEXT (3 * h + 2)) ≡ u)
-          → (cell (c .vert) (PREV h) ≡ u) ⊎ ((cell (c .vert) (NEXT (PREV h)) ≡ u) ⊎ (v + cell (c .edge) (PREV h) ≡ u))
-      home h l (inl e) = inr (inr (sym (new-verts c v s .home h l) ∙ e))
-      home h l (inr e) = inr (inl (ap (cell (c .vert)) (next-prev h) ∙ sym (new-verts c v s .out h l) ∙ (rw (next-2 h) at e)))
+  border-came : (u : ℕ) → OnBorder (finer c v) u → Came u
+  border-came u b = came (row-of (rw (length-twins q) at (b .1))) (b .2) (b .3)
 
-  pub old-on-border : (u : ℕ) → u < v → OnBorder (finerTables c v) u → OnBorder c u
-  old-on-border u l b = by (border-came u b)
+  pub was-on-border : (u : ℕ) → u < v → OnBorder (finer c v) u → OnBorder c u
+  was-on-border u l b = by (border-came u b)
     where
       by : Came u → OnBorder c u
-      by (came p lp m (inl e)) = (p, lp, m, inl e)
-      by (came p lp m (inr (inl e))) = (p, lp, m, inr e)
-      by (came p lp m (inr (inr e))) = absurd (omega arith)
+      by (leaving {p = p} lp m e) = (p, lp, m, inl e)
+      by (ending {p = p} lp m e) = (p, lp, m, inr e)
+      by (amid lp m e) = absurd (omega arith)
 
-  pub still-on-border : (u : ℕ) → OnBorder c u → OnBorder (finerTables c v) u
+  pub still-on-border : (u : ℕ) → OnBorder c u → OnBorder (finer c v) u
   still-on-border u b = by (b .0) (b .1) (b .2) (b .3)
     where
-      by : (h : ℕ) → h < length (c .twin) → cell (c .twin) h ≡ marker → (cell (c .vert) h ≡ u) ⊎ (cell (c .vert) (NEXT h) ≡ u) → OnBorder (finerTables c v) u
-      by h l m (inl e) = (3 * h, rw (length-twins (c .twin)) (omega arith), out-border (c .twin) h l m, inl (new-verts c v s .out h l ∙ e))
+      by : (h : ℕ) → h < H c → TWIN c h ≡ marker → (VERT c h ≡ u) ⊎ (VERT c (NEXT h) ≡ u) → OnBorder (finer c v) u
+      by h l m (inl e) = (3 * h, rw (length-twins q) (omega arith), out-border q l m, inl (vert-rows q .out l ∙ e))
       by h l m (inr e) =
-          let ln = next-below (length (c .twin)) (s .whole) h l in (
-            3 * NEXT h + 2,
-            rw (length-twins (c .twin)) (omega arith),
-            home-border (c .twin) (NEXT h) ln (rw (prev-next h) m),
-            inr (rw (next-2 (NEXT h)) (new-verts c v s .out (NEXT h) ln ∙ e)),
-          )
+          let ln = next-in q l in
+          (3 * NEXT h + 2, rw (length-twins q) (omega arith), home-border q ln (rw (prev-next h) m), inr (rw (next-2 (NEXT h)) (vert-rows q .out ln ∙ e)))
 
-  edge-vertex : (h : ℕ) → h < length (c .twin) → Dec (cell (c .twin) h ≡ marker) → Added (finerTables c v) (v + cell (c .edge) h)
-  edge-vertex h l (yes m) =
+  edge-vertex : {h : ℕ} → h < H c → Dec (TWIN c h ≡ marker) → Added (finer c v) (v + EDGE c h)
+  edge-vertex {h} l (yes m) =
       record {
-        inside = λ n. absurd (n (3 * h, rw (length-twins (c .twin)) (omega arith), out-border (c .twin) h l m, inr (rw (next-0 h) (new-verts c v s .across h l))));
-        on-border = λ b. border-corners h l m;
+        inside = λ n. absurd (n (3 * h, rw (length-twins q) (omega arith), out-border q l m, inr (rw (next-0 h) (vert-rows q .across l))));
+        on-border = λ b. border-corners l m;
       }
-  edge-vertex h l (no n) = record { inside = λ b. inner-corners h l n; on-border = λ b. absurd (by (border-came _ b)) }
+  edge-vertex {h} l (no n) = record { inside = λ b. inner-corners l n; on-border = λ b. absurd (by (border-came _ b)) }
     where
-      no-border : (p : ℕ) → p < length (c .twin) → cell (c .twin) p ≡ marker → (p ≡ h) ⊎ (p ≡ cell (c .twin) h) → ⊥
-      no-border p lp m (inl q) = n (ap (cell (c .twin)) (sym q) ∙ m)
-      no-border p lp m (inr q) = omega (arith, sym (ap (cell (c .twin)) q ∙ r .paired .back h l n) ∙ m)
+      has-twin : {p : ℕ} → TWIN c p ≡ marker → (p ≡ h) ⊎ (p ≡ TWIN c h) → ⊥
+      has-twin m (inl i) = n (ap (TWIN c) (sym i) ∙ m)
+      has-twin m (inr i) = omega (arith, sym (ap (TWIN c) i ∙ q .ruled .paired .back h l n) ∙ m)
 
-      by : Came (v + cell (c .edge) h) → ⊥
-      by (came p lp m (inl e)) = omega (arith, r .placed .below p lp)
-      by (came p lp m (inr (inl e))) = omega (arith, r .placed .below (NEXT p) (next-below (length (c .twin)) (s .whole) p lp))
-      by (came p lp m (inr (inr e))) = no-border p lp m (r .numbered .own p h lp l (omega arith))
+      by : Came (v + EDGE c h) → ⊥
+      by (leaving {p = p} lp m e) = omega (arith, q .ruled .placed .below p lp)
+      by (ending {p = p} lp m e) = omega (arith, q .ruled .placed .below (NEXT p) (next-in q lp))
+      by (amid {p = p} lp m e) = has-twin m (q .ruled .numbered .own p h lp l (omega arith))
 
-  pub new-vertex : (u : ℕ) → v ≤ u → u < v + E (c .twin) → Added (finerTables c v) u
+  pub new-vertex : (u : ℕ) → v ≤ u → u < v + E (c .twin) → Added (finer c v) u
   new-vertex u a b =
-      let g = carried (c .twin) (omega arith) (r .paired) (c .edge) (r .numbered) (u - v) (omega arith) in
-      subst (Added (finerTables c v)) (let e : v + cell (c .edge) (g .0) ≡ u = omega (arith, g .2) in e)
-      (edge-vertex (g .0) (g .1) (ℕ-discrete (cell (c .twin) (g .0)) marker))
+      let g = carried (c .twin) (omega arith) (q .ruled .paired) (c .edge) (q .ruled .numbered) (u - v) (omega arith) in
+      subst (Added (finer c v)) (let e : v + EDGE c (g .0) ≡ u = omega (arith, g .2) in e) (edge-vertex (g .1) (ℕ-discrete (TWIN c (g .0)) marker))

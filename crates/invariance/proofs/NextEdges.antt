@@ -1,197 +1,165 @@
--- The next level's EDGE, `next-numbered`: from tables that pass the rules, and whose next level has at most as many
--- halfedges as the marker, the new tables pass rule 6. Assumes nothing.
-use Prim.Native.Nat.{ℕ, _+_, _*_, _≤_, _<_}
+-- The next level's EDGE passes rule 6: `next-numbered`. Assumes nothing.
+use Prim.Native.Nat.{ℕ, _+_, _*_, _<_}
 use mathlib.Core.Path.{_≡_, refl, sym, ap, _∙_}
 use mathlib.Core.Logic.{_≢_, _⊎_, inl, inr}
 use mathlib.Core.Bool.{Bool, true, false, cond, not}
-use mathlib.Core.List.{List}
-use native.Mathlib.Decide.{ℕ-discrete}
 use native.Mathlib.Omega.{arith}
 use lib.ListN.{length}
-use Rattle.laws.proofs.Tabulate.{length-tabulate}
-use Rattle.halfedges.specs.Cage.{NEXT, PREV, marker, cell, above, E}
+use Rattle.halfedges.specs.Cage.{NEXT, PREV, marker, above, E}
 use Rattle.connectivity.specs.Tables.{Tables}
-use Rattle.connectivity.specs.Ruled.{Shaped, Numbered, Ruled}
-use Rattle.connectivity.specs.NextLevel.{nextTwins, newEdge, nextEdges}
-use Rattle.connectivity.proofs.Turns.{next-below, prev-below, prev-next, next-prev}
+use Rattle.connectivity.specs.Ruled.{Numbered}
+use Rattle.connectivity.proofs.Turns.{prev-next, next-prev}
 use Rattle.connectivity.proofs.EdgeCount.{above-twin}
-use Rattle.invariance.proofs.Rows.{Rows, rows-hold, by-row}
-use Rattle.invariance.proofs.NextTwins.{length-twins, out-border, out-inner, across-twin, home-border, home-inner, middle-twin, next-paired, next-edges}
+use Rattle.invariance.proofs.Rows.{Rows, Row, out, across, home, middle, row-of}
+use Rattle.invariance.proofs.Refinable.{H, TWIN, EDGE, finer, Refinable, next-in, prev-in, length-twins, edge-rows}
+use Rattle.invariance.proofs.NextTwins.{out-border, out-inner, across-twin, home-border, home-inner, middle-twin, next-paired, next-edges}
 
--- the two halves of an edge: of two twins one has the first where the other has the second
-first-half : Bool → ℕ
-first-half b = cond b 0 1
+-- which half of an edge: the first is 0 where a halfedge stands above its twin, the second where it does not
+first : Bool → ℕ
+first b = cond b 0 1
 
-second-half : Bool → ℕ
-second-half b = cond b 1 0
+second : Bool → ℕ
+second b = cond b 1 0
 
-halves : (b : Bool) → first-half b + second-half b ≡ 1
-unfolding first-half second-half
+halves : (b : Bool) → first b + second b ≡ 1
+unfolding first second
 halves true = refl
 halves false = refl
 
-first-of-not : (b : Bool) → first-half (not b) ≡ second-half b
-unfolding first-half second-half
-first-of-not true = refl
-first-of-not false = refl
+first-not : (b : Bool) → first (not b) ≡ second b
+unfolding first second
+first-not true = refl
+first-not false = refl
 
-second-of-not : (b : Bool) → second-half (not b) ≡ first-half b
-unfolding first-half second-half
-second-of-not true = refl
-second-of-not false = refl
+second-not : (b : Bool) → second (not b) ≡ first b
+unfolding first second
+second-not true = refl
+second-not false = refl
 
-pub length-edges : (twin edge : List ℕ) (e : ℕ) → length (nextEdges twin edge e) ≡ 4 * length edge
-unfolding nextEdges
-length-edges twin edge e = length-tabulate _ _
+abbrev firstHalf : Tables → ℕ → ℕ
+firstHalf c h = first (above (c .twin) h)
 
--- the new EDGE table of c
-abbrev pub newEdges : Tables → List ℕ
-newEdges c = nextEdges (c .twin) (c .edge) (E (c .twin))
+abbrev secondHalf : Tables → ℕ → ℕ
+secondHalf c h = second (above (c .twin) h)
 
-module _ (c : Tables) (v : ℕ) (s : Shaped c) (r : Ruled c v) (small : 4 * length (c .twin) ≤ marker) where
-  edges :
-      Rows (newEdges c) (length (c .twin))
-      (λ h. 2 * cell (c .edge) h + first-half (above (c .twin) h))
-      (λ h. 2 * E (c .twin) + h)
-      (λ h. 2 * cell (c .edge) (PREV h) + second-half (above (c .twin) (PREV h)))
-      (λ h. 2 * E (c .twin) + h)
-  unfolding nextEdges newEdge first-half second-half
-  edges = rows-hold _ _ _ _ _ _ (s .edge-long)
+module _ {c : Tables} {v : ℕ} (q : Refinable c v) where
+  edges : Rows (finer c v .edge) (H c) (λ h. 2 * EDGE c h + firstHalf c h) (λ h. 2 * E (c .twin) + h) (λ h. 2 * EDGE c (PREV h) + secondHalf c (PREV h)) (λ h. 2 * E (c .twin) + h)
+  unfolding first second
+  edges = edge-rows q
 
-  next-in : (h : ℕ) → h < length (c .twin) → NEXT h < length (c .twin)
-  next-in = next-below (length (c .twin)) (s .whole)
+  low-out : {h : ℕ} → h < H c → EDGE (finer c v) (3 * h) < 2 * E (c .twin)
+  low-out {h} l = omega (arith, edges .out l, q .ruled .numbered .below h l, halves (above (c .twin) h))
 
-  prev-in : (h : ℕ) → h < length (c .twin) → PREV h < length (c .twin)
-  prev-in = prev-below (length (c .twin)) (s .whole)
+  low-home : {h : ℕ} → h < H c → EDGE (finer c v) (3 * h + 2) < 2 * E (c .twin)
+  low-home {h} l = omega (arith, edges .home l, q .ruled .numbered .below (PREV h) (prev-in q l), halves (above (c .twin) (PREV h)))
 
-  low-out : (h : ℕ) → h < length (c .twin) → cell (newEdges c) (3 * h) < 2 * E (c .twin)
-  low-out h l = rw (edges .out h l) (omega (arith, r .numbered .below h l, halves (above (c .twin) h)))
+  below : {k : ℕ} → Row (H c) k → EDGE (finer c v) k < 2 * E (c .twin) + H c
+  below (out l) = omega (arith, low-out l)
+  below (across l) = omega (arith, edges .across l)
+  below (home l) = omega (arith, low-home l)
+  below (middle l) = omega (arith, edges .middle l)
 
-  low-home : (h : ℕ) → h < length (c .twin) → cell (newEdges c) (3 * h + 2) < 2 * E (c .twin)
-  low-home h l = rw (edges .home h l) (omega (arith, r .numbered .below (PREV h) (prev-in h l), halves (above (c .twin) (PREV h))))
+  above-one : {h : ℕ} → h < H c → TWIN c h ≢ marker → above (c .twin) (TWIN c h) ≡ not (above (c .twin) h)
+  above-one {h} l n = above-twin (c .twin) (omega arith) (q .ruled .paired) h l n
 
-  below : (k : ℕ) → k < 4 * length (c .twin) → cell (newEdges c) k < 2 * E (c .twin) + length (c .twin)
-  below =
-      by-row (length (c .twin)) (λ k. cell (newEdges c) k < 2 * E (c .twin) + length (c .twin))
-      (λ h l. omega (arith, low-out h l))
-      (λ h l. rw (edges .across h l) (omega arith))
-      (λ h l. omega (arith, low-home h l))
-      (λ h l. rw (edges .middle h l) (omega arith))
-
-  twin-same : (k : ℕ) → k < 4 * length (c .twin) → cell (nextTwins (c .twin)) k ≢ marker → cell (newEdges c) (cell (nextTwins (c .twin)) k) ≡ cell (newEdges c) k
-  twin-same =
-      by-row (length (c .twin)) (λ k. cell (nextTwins (c .twin)) k ≢ marker → cell (newEdges c) (cell (nextTwins (c .twin)) k) ≡ cell (newEdges c) k)
-      (λ h l n. out h l n (ℕ-discrete (cell (c .twin) h) marker))
-      (λ h l n. rw (across-twin (c .twin) h l, edges .across h l) (edges .middle h l))
-      (λ h l n. home h l n (ℕ-discrete (cell (c .twin) (PREV h)) marker))
-      (λ h l n. rw (middle-twin (c .twin) h l, edges .middle h l) (edges .across h l))
-    where
-      other-half : (h : ℕ) → h < length (c .twin) → cell (c .twin) h ≢ marker → above (c .twin) (cell (c .twin) h) ≡ not (above (c .twin) h)
-      other-half = above-twin (c .twin) (omega arith) (r .paired)
-
-      out :
-          (h : ℕ) → h < length (c .twin) → cell (nextTwins (c .twin)) (3 * h) ≢ marker → Dec (cell (c .twin) h ≡ marker)
-          → cell (newEdges c) (cell (nextTwins (c .twin)) (3 * h)) ≡ cell (newEdges c) (3 * h)
-      out h l n (yes m) = absurd (n (out-border (c .twin) h l m))
-      out h l n (no m) =
-          rw (out-inner (c .twin) h l m, edges .out h l)
-          (edges .home (NEXT (cell (c .twin) h)) (next-in _ (r .paired .below h l m))
-          ∙ rw (prev-next (cell (c .twin) h), r .numbered .twin-same h l m, other-half h l m, second-of-not (above (c .twin) h)))
-
-      home :
-          (h : ℕ) → h < length (c .twin) → cell (nextTwins (c .twin)) (3 * h + 2) ≢ marker → Dec (cell (c .twin) (PREV h) ≡ marker)
-          → cell (newEdges c) (cell (nextTwins (c .twin)) (3 * h + 2)) ≡ cell (newEdges c) (3 * h + 2)
-      home h l n (yes m) = absurd (n (home-border (c .twin) h l m))
-      home h l n (no m) =
-          let lp = prev-in h l in
-          rw (home-inner (c .twin) h l m, edges .home h l)
-          (edges .out (cell (c .twin) (PREV h)) (r .paired .below (PREV h) lp m)
-          ∙ rw (r .numbered .twin-same (PREV h) lp m, other-half (PREV h) lp m, first-of-not (above (c .twin) (PREV h))))
+  twin-same : {k : ℕ} → Row (H c) k → TWIN (finer c v) k ≢ marker → EDGE (finer c v) (TWIN (finer c v) k) ≡ EDGE (finer c v) k
+  twin-same (across l) n = rw (across-twin q l, edges .across l) (edges .middle l)
+  twin-same (middle l) n = rw (middle-twin q l, edges .middle l) (edges .across l)
+  twin-same (out {h} l) n =
+      let m : TWIN c h ≢ marker = λ e. n (out-border q l e) in
+      rw (out-inner q l m, edges .out l)
+      (edges .home (next-in q (q .ruled .paired .below h l m))
+      ∙ rw (prev-next (TWIN c h), q .ruled .numbered .twin-same h l m, above-one l m, second-not (above (c .twin) h)))
+  twin-same (home {h} l) n =
+      let m : TWIN c (PREV h) ≢ marker = λ e. n (home-border q l e) in
+      let lp = prev-in q l in
+      rw (home-inner q l m, edges .home l)
+      (edges .out (q .ruled .paired .below (PREV h) lp m)
+      ∙ rw (q .ruled .numbered .twin-same (PREV h) lp m, above-one lp m, first-not (above (c .twin) (PREV h))))
 
   -- ---- who carries a new edge
 
-  -- g is h, or its twin that stands where h does not
+  -- halfedges of one edge: g is h, or its twin that has the other half
   data Sides (g h : ℕ) : Type 0 where
     one : g ≡ h → Sides g h
-    two : g ≡ cell (c .twin) h → cell (c .twin) h ≢ marker → above (c .twin) g ≡ not (above (c .twin) h) → Sides g h
+    two : g ≡ TWIN c h → TWIN c h ≢ marker → firstHalf c g ≡ secondHalf c h → secondHalf c g ≡ firstHalf c h → Sides g h
 
-  sides : (g h : ℕ) → g < length (c .twin) → h < length (c .twin) → cell (c .edge) g ≡ cell (c .edge) h → Sides g h
-  sides g h lg lh e = by (r .numbered .own g h lg lh e)
+  sides : {g h : ℕ} → g < H c → h < H c → EDGE c g ≡ EDGE c h → Sides g h
+  sides {g} {h} lg lh e = by (q .ruled .numbered .own g h lg lh e)
     where
-      by : (g ≡ h) ⊎ (g ≡ cell (c .twin) h) → Sides g h
-      by (inl q) = one q
-      by (inr q) =
-          let n : cell (c .twin) h ≢ marker = rw (← q) (omega arith) in
-          two q n (ap (above (c .twin)) q ∙ above-twin (c .twin) (omega arith) (r .paired) h lh n)
+      by : (g ≡ h) ⊎ (g ≡ TWIN c h) → Sides g h
+      by (inl i) = one i
+      by (inr i) =
+          let n : TWIN c h ≢ marker = rw (← i) (omega arith) in
+          let a = ap (above (c .twin)) i ∙ above-one lh n in
+          two i n (ap first a ∙ first-not (above (c .twin) h)) (ap second a ∙ second-not (above (c .twin) h))
 
-  first-same : (g h : ℕ) → Sides g h → first-half (above (c .twin) g) ≡ first-half (above (c .twin) h) → g ≡ h
-  first-same g h (one q) e = q
-  first-same g h (two q n a) e =
-      absurd (omega (arith, halves (above (c .twin) h), ap first-half a, first-of-not (above (c .twin) h)))
+  first-same : {g h : ℕ} → Sides g h → firstHalf c g ≡ firstHalf c h → g ≡ h
+  first-same (one i) e = i
+  first-same {g} {h} (two i n a b) e = absurd (omega (arith, halves (above (c .twin) h)))
 
-  second-same : (g h : ℕ) → Sides g h → second-half (above (c .twin) g) ≡ second-half (above (c .twin) h) → g ≡ h
-  second-same g h (one q) e = q
-  second-same g h (two q n a) e =
-      absurd (omega (arith, halves (above (c .twin) h), ap second-half a, second-of-not (above (c .twin) h)))
+  second-same : {g h : ℕ} → Sides g h → secondHalf c g ≡ secondHalf c h → g ≡ h
+  second-same (one i) e = i
+  second-same {g} {h} (two i n a b) e = absurd (omega (arith, halves (above (c .twin) h)))
 
-  crossed : (g h : ℕ) → Sides g h → first-half (above (c .twin) g) ≡ second-half (above (c .twin) h) → (g ≡ cell (c .twin) h) × (cell (c .twin) h ≢ marker)
-  crossed g h (one q) e = absurd (omega (arith, halves (above (c .twin) h), ap (λ x. first-half (above (c .twin) x)) q))
-  crossed g h (two q n a) e = (q, n)
+  crossed : {g h : ℕ} → Sides g h → firstHalf c g ≡ secondHalf c h → (g ≡ TWIN c h) × (TWIN c h ≢ marker)
+  crossed {g} {h} (one i) e = absurd (omega (arith, halves (above (c .twin) h), ap (firstHalf c) i))
+  crossed (two i n a b) e = (i, n)
 
-  Own : ℕ → ℕ → Type 0
-  Own j k = cell (newEdges c) j ≡ cell (newEdges c) k → (j ≡ k) ⊎ (j ≡ cell (nextTwins (c .twin)) k)
+  out-home : {g h : ℕ} → g < H c → h < H c → EDGE (finer c v) (3 * g) ≡ EDGE (finer c v) (3 * h + 2) → 3 * g ≡ TWIN (finer c v) (3 * h + 2)
+  out-home {g} {h} lg lh e =
+      let a = edges .out lg in
+      let b = edges .home lh in
+      let same : EDGE c g ≡ EDGE c (PREV h) = omega (arith, halves (above (c .twin) g), halves (above (c .twin) (PREV h))) in
+      let t = crossed (sides lg (prev-in q lh) same) (omega arith) in
+      ap (λ x. 3 * x) (t .0) ∙ sym (home-inner q lh (t .1))
 
-  -- halves of an edge, the second from a halfedge that goes home
-  out-home : (p h : ℕ) → p < length (c .twin) → h < length (c .twin) → cell (newEdges c) (3 * p) ≡ cell (newEdges c) (3 * h + 2) → 3 * p ≡ cell (nextTwins (c .twin)) (3 * h + 2)
-  out-home p h lp lh e =
-      let same : cell (c .edge) p ≡ cell (c .edge) (PREV h) = omega (arith, edges .out p lp, edges .home h lh, halves (above (c .twin) p), halves (above (c .twin) (PREV h))) in
-      let q = crossed p (PREV h) (sides p (PREV h) lp (prev-in h lh) same) (omega (arith, edges .out p lp, edges .home h lh)) in
-      ap (λ x. 3 * x) (q .0) ∙ sym (home-inner (c .twin) h lh (q .1))
+  -- TWIN leads back
+  home-out : {g h : ℕ} → g < H c → h < H c → EDGE (finer c v) (3 * h + 2) ≡ EDGE (finer c v) (3 * g) → 3 * h + 2 ≡ TWIN (finer c v) (3 * g)
+  home-out {g} {h} lg lh e =
+      let t = out-home lg lh (sym e) in
+      sym (ap (TWIN (finer c v)) t ∙ next-paired q .back (3 * h + 2) (rw (length-twins q) (omega arith)) (rw (← t) (omega arith)))
 
-  own : (j : ℕ) → j < 4 * length (c .twin) → (k : ℕ) → k < 4 * length (c .twin) → Own j k
-  unfolding Own
-  own =
-      by-row (length (c .twin)) (λ j. (k : ℕ) → k < 4 * length (c .twin) → Own j k)
-      (λ p lp. by-row (length (c .twin)) (Own (3 * p))
-      (λ q lq e.
-      let same : cell (c .edge) p ≡ cell (c .edge) q = omega (arith, edges .out p lp, edges .out q lq, halves (above (c .twin) p), halves (above (c .twin) q)) in
-      inl (ap (λ x. 3 * x) (first-same p q (sides p q lp lq same) (omega (arith, edges .out p lp, edges .out q lq)))))
-      (λ q lq e. absurd (omega (arith, low-out p lp, edges .across q lq)))
-      (λ h lh e. inr (out-home p h lp lh e))
-      (λ q lq e. absurd (omega (arith, low-out p lp, edges .middle q lq))))
-      (λ p lp. by-row (length (c .twin)) (Own (3 * p + 1))
-      (λ q lq e. absurd (omega (arith, low-out q lq, edges .across p lp)))
-      (λ q lq e. inl (omega (arith, edges .across p lp, edges .across q lq)))
-      (λ q lq e. absurd (omega (arith, low-home q lq, edges .across p lp)))
-      (λ q lq e. inr (omega (arith, edges .across p lp, edges .middle q lq, middle-twin (c .twin) q lq))))
-      (λ g lg. by-row (length (c .twin)) (Own (3 * g + 2))
-      (λ q lq e. inr (back-home q g lq lg (sym e)))
-      (λ q lq e. absurd (omega (arith, low-home g lg, edges .across q lq)))
-      (λ h lh e.
-      let same : cell (c .edge) (PREV g) ≡ cell (c .edge) (PREV h) = omega (arith, edges .home g lg, edges .home h lh, halves (above (c .twin) (PREV g)), halves (above (c .twin) (PREV h))) in
-      let q = second-same (PREV g) (PREV h) (sides (PREV g) (PREV h) (prev-in g lg) (prev-in h lh) same) (omega (arith, edges .home g lg, edges .home h lh)) in
-      inl (ap (λ x. 3 * x + 2) (sym (next-prev g) ∙ ap NEXT q ∙ next-prev h)))
-      (λ q lq e. absurd (omega (arith, low-home g lg, edges .middle q lq))))
-      (λ p lp. by-row (length (c .twin)) (Own (3 * length (c .twin) + p))
-      (λ q lq e. absurd (omega (arith, low-out q lq, edges .middle p lp)))
-      (λ q lq e. inr (omega (arith, edges .middle p lp, edges .across q lq, across-twin (c .twin) q lq)))
-      (λ q lq e. absurd (omega (arith, low-home q lq, edges .middle p lp)))
-      (λ q lq e. inl (omega (arith, edges .middle p lp, edges .middle q lq))))
-    where
-      -- TWIN leads back from 3q to 3g+2
-      back-home : (q g : ℕ) → q < length (c .twin) → g < length (c .twin) → cell (newEdges c) (3 * q) ≡ cell (newEdges c) (3 * g + 2) → 3 * g + 2 ≡ cell (nextTwins (c .twin)) (3 * q)
-      back-home q g lq lg e =
-          let t = out-home q g lq lg e in
-          sym (ap (cell (nextTwins (c .twin))) t ∙ next-paired (c .twin) (s .whole) small (r .paired) .back (3 * g + 2) (rw (length-twins (c .twin)) (omega arith)) (rw (← t) (omega arith)))
+  out-out : {g h : ℕ} → g < H c → h < H c → EDGE (finer c v) (3 * g) ≡ EDGE (finer c v) (3 * h) → 3 * g ≡ 3 * h
+  out-out {g} {h} lg lh e =
+      let a = edges .out lg in
+      let b = edges .out lh in
+      let same : EDGE c g ≡ EDGE c h = omega (arith, halves (above (c .twin) g), halves (above (c .twin) h)) in
+      ap (λ x. 3 * x) (first-same (sides lg lh same) (omega arith))
 
-  pub next-numbered : Numbered (nextTwins (c .twin)) (newEdges c)
-  unfolding Own
+  home-home : {g h : ℕ} → g < H c → h < H c → EDGE (finer c v) (3 * g + 2) ≡ EDGE (finer c v) (3 * h + 2) → 3 * g + 2 ≡ 3 * h + 2
+  home-home {g} {h} lg lh e =
+      let a = edges .home lg in
+      let b = edges .home lh in
+      let same : EDGE c (PREV g) ≡ EDGE c (PREV h) = omega (arith, halves (above (c .twin) (PREV g)), halves (above (c .twin) (PREV h))) in
+      let i = second-same (sides (prev-in q lg) (prev-in q lh) same) (omega arith) in
+      ap (λ x. 3 * x + 2) (sym (next-prev g) ∙ ap NEXT i ∙ next-prev h)
+
+  own : {j k : ℕ} → Row (H c) j → Row (H c) k → EDGE (finer c v) j ≡ EDGE (finer c v) k → (j ≡ k) ⊎ (j ≡ TWIN (finer c v) k)
+  own (out lg) (out lh) e = inl (out-out lg lh e)
+  own (out lg) (across lh) e = absurd (omega (arith, low-out lg, edges .across lh))
+  own (out lg) (home lh) e = inr (out-home lg lh e)
+  own (out lg) (middle lh) e = absurd (omega (arith, low-out lg, edges .middle lh))
+  own (across lg) (out lh) e = absurd (omega (arith, low-out lh, edges .across lg))
+  own (across lg) (across lh) e = inl (omega (arith, edges .across lg, edges .across lh))
+  own (across lg) (home lh) e = absurd (omega (arith, low-home lh, edges .across lg))
+  own (across lg) (middle lh) e = inr (omega (arith, edges .across lg, edges .middle lh, middle-twin q lh))
+  own (home lg) (out lh) e = inr (home-out lh lg e)
+  own (home lg) (across lh) e = absurd (omega (arith, low-home lg, edges .across lh))
+  own (home lg) (home lh) e = inl (home-home lg lh e)
+  own (home lg) (middle lh) e = absurd (omega (arith, low-home lg, edges .middle lh))
+  own (middle lg) (out lh) e = absurd (omega (arith, low-out lh, edges .middle lg))
+  own (middle lg) (across lh) e = inr (omega (arith, edges .middle lg, edges .across lh, across-twin q lh))
+  own (middle lg) (home lh) e = absurd (omega (arith, low-home lh, edges .middle lg))
+  own (middle lg) (middle lh) e = inl (omega (arith, edges .middle lg, edges .middle lh))
+
+  pub next-numbered : Numbered (finer c v .twin) (finer c v .edge)
   next-numbered =
       record {
-        below = λ k l. rw (next-edges (c .twin) (s .whole) small (r .paired)) (below k (in-old k l));
-        twin-same = λ k l n. twin-same k (in-old k l) n;
-        own = λ j k lj lk e. own j (in-old j lj) k (in-old k lk) e;
+        below = λ k l. rw (next-edges q) (below (row l));
+        twin-same = λ k l n. twin-same (row l) n;
+        own = λ j k lj lk e. own (row lj) (row lk) e;
       }
     where
-      in-old : (k : ℕ) → k < length (nextTwins (c .twin)) → k < 4 * length (c .twin)
-      in-old k l = rw (length-twins (c .twin)) at l
+      row : {k : ℕ} → k < length (finer c v .twin) → Row (H c) k
+      row l = row-of (rw (length-twins q) at l)

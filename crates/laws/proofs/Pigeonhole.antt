@@ -1,7 +1,8 @@
 -- Counting what has different values. Assumes nothing.
 --     counted, some-counted         a count is not 0 where one passes, and only there
 --     and-both                      both parts of a conjunction that holds
---     count-at-most-one             where no two pass
+--     count-at-most                 at most all
+--     count-at-most-one             at most one, where no two pass
 --     sum-of-counts                 what passes, counted by its value
 --     at-most-the-values, onto      different values below m: at most m pass; where m pass, every value is met
 --     distinct-at-most              a list of different numbers below m has at most m
@@ -33,6 +34,10 @@ some-counted (suc n) p k l e = by (ℕ-discrete k n) (λ b. some-counted n p k b
     by : Dec (k ≡ n) → (k < n → 0 < count n p) → 0 < count (suc n) p
     by (yes q) ih = rw (ap p (sym q) ∙ e) (omega arith)
     by (no q) ih = omega (arith, ih (omega (arith, q)))
+
+pub count-at-most : (n : ℕ) (p : ℕ → Bool) → count n p ≤ n
+count-at-most zero p = omega arith
+count-at-most (suc n) p = by-test (p n) (λ e. rw e (omega (arith, count-at-most n p))) (λ e. rw e (omega (arith, count-at-most n p)))
 
 pub count-at-most-one : (n : ℕ) (p : ℕ → Bool) → ((i j : ℕ) → i < n → j < n → p i ≡ true → p j ≡ true → i ≡ j) → count n p ≤ 1
 count-at-most-one zero p u = omega arith
