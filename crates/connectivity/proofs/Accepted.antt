@@ -2,14 +2,14 @@
 -- `meaning`, or one way each `ruled` and `rules-done`. Any tables pass 1 to 7 exactly when they have the right shape,
 -- are within the limits and the record holds: `whole-meaning`. Assumes nothing.
 use Prim.Native.Nat.{ℕ}
-use mathlib.Core.Path.{_≡_, refl, ap}
-use mathlib.Core.Logic.{_≢_, _↔_}
-use mathlib.Core.Bool.{Bool, true, false}
+use mathlib.Core.Path.{_≡_, ap}
+use mathlib.Core.Logic.{_↔_}
+use mathlib.Core.Bool.{Bool, false}
 use native.Mathlib.Omega.{arith}
 use lib.ListN.{length}
-use Rattle.halfedges.specs.Refusals.{Verdict, DONE, SHAPE, LIMIT, TWIN, VERTEX, UNUSED, EDGE, FAN, given, givenAt, first}
+use Rattle.halfedges.specs.Refusals.{Verdict, DONE, SHAPE, LIMIT, TWIN, VERTEX, UNUSED, EDGE, FAN, givenAt, first}
 use Rattle.halfedges.specs.Counts.{aboveLimit}
-use Rattle.halfedges.proofs.Checks.{Clean, clean-done, passed-clean, AllPassed, none, also, passed-all, all-passed-done}
+use Rattle.halfedges.proofs.Checks.{is-passed, not-given, Clean, clean-done, passed-clean, AllPassed, none, also, passed-all, all-passed-done}
 use Rattle.connectivity.specs.Tables.{Tables}
 use Rattle.connectivity.specs.Ruled.{Shaped, Ruled}
 use Rattle.connectivity.specs.Operations.{rules, tableChecks}
@@ -50,16 +50,6 @@ module _ (c : Tables) (v : ℕ) (s : Shaped c) where
 
   pub meaning : (first (rules c v) ≡ DONE) ↔ Ruled c v
   meaning = (λ e. ruled (ap (λ w. w .number) e), rules-done)
-
--- a check is passed exactly where it is not given
-is-passed : (test : Bool) (w : Verdict) → test ≡ false → given test w .number ≡ 0
-unfolding given
-is-passed test w e = rw e
-
-not-given : (test : Bool) (w : Verdict) → w .number ≢ 0 → given test w .number ≡ 0 → test ≡ false
-unfolding given
-not-given true w n e = absurd (n e)
-not-given false w n e = refl
 
 module _ (c : Tables) (v depth : ℕ) where
   pub whole-meaning : (first (tableChecks c v depth) ≡ DONE) ↔ (Shaped c × (aboveLimit (length (c .twin)) v depth ≡ false) × Ruled c v)

@@ -13,3 +13,5 @@ pub mod Joined
 pub mod Fanned
 pub mod Accepted
 pub mod EdgeCount
+pub mod Copied
+pub mod Granted

@@ -3,13 +3,23 @@ use Prim.Native.Nat.{ℕ, _<_}
 use mathlib.Core.Path.{_≡_, refl, sym, ap, _∙_}
 use mathlib.Core.Logic.{_≢_}
 use mathlib.Core.Bool.{Bool, true, false}
-use mathlib.Core.List.{List, [], _∷_}
+use mathlib.Core.List.{List, [], _∷_, _++_}
 use native.Mathlib.Decide.{ℕ-discrete}
 use borrow.Author.Tests.{eq-eqb, ne-eqb}
 use Rattle.laws.specs.Below.{any, lowest}
 use Rattle.laws.proofs.Tests.{by-test, any-false, false-any, true-any}
 use Rattle.laws.proofs.Lowest.{lowest-is}
 use Rattle.halfedges.specs.Refusals.{Verdict, DONE, given, givenAt, first}
+
+-- a check is passed exactly where it is not given
+pub is-passed : (test : Bool) (w : Verdict) → test ≡ false → given test w .number ≡ 0
+unfolding given
+is-passed test w e = rw e
+
+pub not-given : (test : Bool) (w : Verdict) → w .number ≢ 0 → given test w .number ≡ 0 → test ≡ false
+unfolding given
+not-given true w n e = absurd (n e)
+not-given false w n e = refl
 
 -- no number below n is bad
 abbrev pub Clean : ℕ → (ℕ → Bool) → Type 0
@@ -75,3 +85,22 @@ given-alone n bad at r = by (ℕ-discrete (givenAt n bad at .number) 0)
     by : Dec (givenAt n bad at .number ≡ 0) → givenAt n bad at ≡ first (givenAt n bad at ∷ [])
     by (yes z) = clean-done n bad at (passed-clean n bad at r z) ∙ sym (first-passed (givenAt n bad at) [] z)
     by (no z) = sym (first-refused (givenAt n bad at) [] z)
+
+-- checks after others
+module _ (ws : List Verdict) where
+  pub first-refused-before : (vs : List Verdict) → first vs .number ≢ 0 → first (vs ++ ws) ≡ first vs
+  unfolding first
+  first-refused-before [] r = absurd (r refl)
+  first-refused-before (v ∷ vs) r = by (ℕ-discrete (v .number) 0) (λ q. first-refused-before vs q)
+    where
+      by : Dec (v .number ≡ 0) → (first vs .number ≢ 0 → first (vs ++ ws) ≡ first vs) → first (v ∷ (vs ++ ws)) ≡ first (v ∷ vs)
+      by (yes z) ih = let e = first-passed v vs z in first-passed v (vs ++ ws) z ∙ ih (λ q. r (ap (λ w. w .number) e ∙ q)) ∙ sym e
+      by (no z) ih = first-refused v (vs ++ ws) z ∙ sym (first-refused v vs z)
+
+  pub first-passed-before : {vs : List Verdict} → AllPassed vs → first (vs ++ ws) ≡ first ws
+  first-passed-before none = refl
+  first-passed-before (also {v = v} {vs = vs} z a) = first-passed v (vs ++ ws) z ∙ first-passed-before a
+
+  pub passed-both : (vs : List Verdict) → AllPassed (vs ++ ws) → AllPassed vs × AllPassed ws
+  passed-both [] a = (none, a)
+  passed-both (v ∷ vs) (also z a) = let b = passed-both vs a in (also z (b .0), b .1)

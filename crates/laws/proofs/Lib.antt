@@ -6,6 +6,7 @@ pub mod Counts
 pub mod Bumped
 pub mod Parts
 pub mod EndToEnd
+pub mod InFront
 pub mod Counting
 pub mod Pigeonhole
 pub mod Least

@@ -1,41 +1,46 @@
+-- `plan` goes through 1 to 7, and then the room.
 use borrow.Author.Needs.{needs}
+use mathlib.Core.Path.{_≡_, ap, _∙_}
+use Rattle.halfedges.specs.Refusals.{told, first}
+use Rattle.halfedges.specs.Counts.{levels}
+use Rattle.connectivity.specs.Tables.{tables}
+use Rattle.connectivity.specs.Operations.{shortTables}
+use Rattle.connectivity.proofs.Granted.{granted, verdict-refused, checks-done, verdict-passed}
 use Rattle.connectivity.proofs.refine.plan.Statement.{statement}
 use Rattle.connectivity.proofs.refine.plan.Tie as tie
-use Rattle.connectivity.proofs.refine.plan.Reads as reads
-use Rattle.connectivity.proofs.refine.plan.Lts as lts
-use Rattle.connectivity.proofs.check.check_for_depth.Reads as check-for-depth-reads
-use Rattle.connectivity.proofs.refine.counts_of.Reads as counts-of-reads
-use Rattle.connectivity.proofs.refine.short_table.Reads as short-table-reads
-use Rattle.halfedges.proofs.answer.Answer.number.Reads as number-reads
-use Rattle.halfedges.proofs.table.HalfedgeTable.levels.Reads as levels-reads
 
--- src/refine.rt:106:9
 check-for-depth-requires : tie.Need-check-for-depth-requires
 check-for-depth-requires c κs = search needs
 
--- src/refine.rt:107:8
 number-requires : tie.Need-number-requires
 number-requires c κs = search needs
 
--- src/refine.rt:108:9
 returns : tie.Need-returns
-returns c = ?
+returns c = verdict-refused _ _ _ _ (c .before .before .check-for-depth .result) (c .before .before .check-for-depth .ensures) (c .before .number .ensures) (c .if1 .taken)
 
--- src/refine.rt:110:18
 counts-of-requires : tie.Need-counts-of-requires
 counts-of-requires c κs = search needs
 
--- src/refine.rt:110:9
 levels-requires : tie.Need-levels-requires
-levels-requires c κs = ?
+levels-requires c κs =
+    let i = c .before .before in
+    let s = c .before .before .before .before .before .before .before .before .before .before in
+    let x = tables (s .args .twin .now) (s .args .vert .now) (s .args .edge .now) in
+    let g = granted _ _ _ (checks-done _ _ _ x (i .before .check-for-depth .result) (i .before .check-for-depth .ensures) (i .number .ensures) (c .before .if1 .left)) in
+    rw (c .counts-of .ensures) (g .small, g .shallow)
 
--- src/refine.rt:111:5
 short-table-requires : tie.Need-short-table-requires
 short-table-requires c κs = search needs
 
--- src/refine.rt:94:1
 returns-2 : tie.Need-returns-2
-returns-2 c = ?
+unfolding levels
+returns-2 c =
+    let i = c .before .before .before in
+    let s = i .before .before .before .before .before .before .before .before .before in
+    let x = tables (s .args .twin .now) (s .args .vert .now) (s .args .edge .now) in
+    c .short-table .ensures
+    ∙ ap (λ l. first (shortTables (l .«halfedge_room») x)) (c .before .levels .ensures ∙ ap (λ t. levels t (s .args .depth)) (c .before .before .counts-of .ensures))
+    ∙ verdict-passed _ _ _ _ (i .before .before .check-for-depth .result) (i .before .before .check-for-depth .ensures) (i .before .number .ensures) (i .if1 .left)
 
 pub plan-spec : {M : Type 1} → statement M
 plan-spec =

@@ -1,23 +1,25 @@
+-- `short_table` goes through the three tables in order.
+use borrow.Author.Tests.{lt-ltb, le-ltb}
+use Rattle.halfedges.specs.Refusals.{given, short, first}
+use Rattle.connectivity.specs.Operations.{shortTables}
 use Rattle.connectivity.proofs.refine.short_table.Statement.{statement}
 use Rattle.connectivity.proofs.refine.short_table.Tie as tie
-use Rattle.connectivity.proofs.refine.short_table.Reads as reads
-use Rattle.connectivity.proofs.refine.short_table.Lts as lts
 
--- src/refine.rt:119:9
 returns : tie.Need-returns
-returns c = ?
+unfolding shortTables short given first
+returns c = simp (lt-ltb _ _ (c .if1 .taken))
 
--- src/refine.rt:122:9
 returns-2 : tie.Need-returns-2
-returns-2 c = ?
+unfolding shortTables short given first
+returns-2 c = simp (le-ltb _ _ (c .before .if1 .left), lt-ltb _ _ (c .if2 .taken))
 
--- src/refine.rt:125:9
 returns-3 : tie.Need-returns-3
-returns-3 c = ?
+unfolding shortTables short given first
+returns-3 c = simp (le-ltb _ _ (c .before .before .if1 .left), le-ltb _ _ (c .before .if2 .left), lt-ltb _ _ (c .if3 .taken))
 
--- src/refine.rt:115:1
 returns-4 : tie.Need-returns-4
-returns-4 c = ?
+unfolding shortTables short given first
+returns-4 c = simp (le-ltb _ _ (c .before .before .if1 .left), le-ltb _ _ (c .before .if2 .left), le-ltb _ _ (c .if3 .left))
 
 pub short-table-spec : {M : Type 1} → statement M
 short-table-spec = tie.close (tie.spec returns returns-2 returns-3 returns-4)
