@@ -12,3 +12,5 @@ pub mod Joined
 pub mod Fanned
 pub mod Accepted
 pub mod EdgeCount
+pub mod Walks
+pub mod Corners

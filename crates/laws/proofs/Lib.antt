@@ -9,3 +9,4 @@ pub mod EndToEnd
 pub mod Counting
 pub mod Pigeonhole
 pub mod Least
+pub mod Subsets
