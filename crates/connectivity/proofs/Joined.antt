@@ -19,7 +19,7 @@ use Rattle.laws.proofs.Pigeonhole.{distinct-at-most}
 use Rattle.halfedges.specs.Cage.{NEXT, PREV, marker, cell}
 use Rattle.connectivity.specs.Fans.{link, Joined, itself, linked, back, on, met, joined}
 use Rattle.connectivity.specs.Ruled.{Paired}
-use Rattle.connectivity.proofs.Turns.{next-prev, prev-below}
+use Rattle.halfedges.proofs.Triangle.{next-prev, prev-below}
 
 -- the halfedge n links on from g
 walk : List ℕ → ℕ → ℕ → ℕ

@@ -8,10 +8,11 @@ pub mod Stages
 pub mod Carriers
 pub mod RuleTests
 pub mod TableChecks
-pub mod Turns
 pub mod Joined
 pub mod Fanned
 pub mod Accepted
 pub mod EdgeCount
 pub mod Copied
 pub mod Granted
+pub mod Walks
+pub mod Corners

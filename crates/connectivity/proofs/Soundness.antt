@@ -14,7 +14,7 @@ use Rattle.laws.specs.Below.{tabulate}
 use Rattle.laws.proofs.Tabulate.{length-tabulate, getD-tabulate}
 use Rattle.halfedges.specs.Cage.{NEXT, PREV, marker, cell, above}
 use Rattle.halfedges.specs.Counts.{finer, countsAt}
-use Rattle.halfedges.proofs.Triangle.{next-below, previous-below, four-whole}
+use Rattle.halfedges.proofs.Triangle.{next-below, prev-below, four-whole}
 use Rattle.connectivity.specs.Tables.{Tables}
 use Rattle.connectivity.specs.NextLevel.{whereTwin, newTwin, newEdge, nextTwins, nextEdges, nextVerts, next, level}
 use Rattle.connectivity.specs.InPlace.{Sound}
@@ -44,9 +44,9 @@ module _ (t : HalfedgeTable) (c : Tables) (s : Sound t c) where
   unfolding newTwin Below
   new-twin-below k l =
       every-row (length (c .twin)) _ _ _ _ Below
-      (λ h m. where-twin h _ (λ e. omega (arith, next-below _ n (s .whole) (s .twin-below h (rw (s .twin-long) at m) e))))
+      (λ h m. where-twin h _ (λ e. omega (arith, next-below (s .whole) (s .twin-below h (rw (s .twin-long) at m) e))))
       (λ h m e. omega (arith, s .twin-long))
-      (λ h m. where-twin (PREV h) _ (λ e. omega (arith, s .twin-below (PREV h) (previous-below h n (s .whole) (rw (s .twin-long) at m)) e)))
+      (λ h m. where-twin (PREV h) _ (λ e. omega (arith, s .twin-below (PREV h) (prev-below (s .whole) (rw (s .twin-long) at m)) e)))
       (λ h m e. omega (arith, s .twin-long))
       k (rw (s .twin-long) l)
 
@@ -56,7 +56,7 @@ module _ (t : HalfedgeTable) (c : Tables) (s : Sound t c) where
       every-row (length (c .edge)) _ _ _ _ (λ x. x < 2 * t .edges + n)
       (λ h m. omega (arith, s .edge-below h (rw (s .edge-long) at m), one-bit (above (c .twin) h) 0 1 (omega arith) (omega arith)))
       (λ h m. omega (arith, s .edge-long))
-      (λ h m. omega (arith, s .edge-below (PREV h) (previous-below h n (s .whole) (rw (s .edge-long) at m)), one-bit (above (c .twin) (PREV h)) 1 0 (omega arith) (omega arith)))
+      (λ h m. omega (arith, s .edge-below (PREV h) (prev-below (s .whole) (rw (s .edge-long) at m)), one-bit (above (c .twin) (PREV h)) 1 0 (omega arith) (omega arith)))
       (λ h m. omega (arith, s .edge-long))
       k (rw (s .edge-long) l)
 

@@ -5,4 +5,5 @@ pub mod Ruled
 pub mod NextLevel
 pub mod InPlace
 pub mod Tally
+pub mod Walks
 pub mod Operations

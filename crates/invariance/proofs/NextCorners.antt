@@ -15,7 +15,7 @@ use Rattle.laws.specs.Below.{sum, count}
 use Rattle.laws.proofs.Counting.{sum-ext, sum-add, sum-none, sum-at, sum-turned, turned-back, same-eqb}
 use Rattle.halfedges.specs.Cage.{NEXT, PREV, marker, E}
 use Rattle.connectivity.specs.Tables.{Tables}
-use Rattle.connectivity.proofs.Turns.{next-0, next-2, prev-next, next-prev, round}
+use Rattle.halfedges.proofs.Triangle.{next-0, next-2, prev-next, next-prev, round}
 use Rattle.connectivity.proofs.EdgeCount.{carried}
 use Rattle.invariance.specs.Invariance.{cornersAt, OnBorder, Added}
 use Rattle.invariance.proofs.Rows.{Row, out, across, home, middle, row-of, sum-rows}

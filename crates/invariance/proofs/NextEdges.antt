@@ -8,7 +8,7 @@ use lib.ListN.{length}
 use Rattle.halfedges.specs.Cage.{NEXT, PREV, marker, above, E}
 use Rattle.connectivity.specs.Tables.{Tables}
 use Rattle.connectivity.specs.Ruled.{Numbered}
-use Rattle.connectivity.proofs.Turns.{prev-next, next-prev}
+use Rattle.halfedges.proofs.Triangle.{prev-next, next-prev}
 use Rattle.connectivity.proofs.EdgeCount.{above-twin}
 use Rattle.invariance.proofs.Rows.{Rows, Row, out, across, home, middle, row-of}
 use Rattle.invariance.proofs.Refinable.{H, TWIN, EDGE, finer, Refinable, next-in, prev-in, length-twins, edge-rows}

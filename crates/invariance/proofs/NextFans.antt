@@ -8,7 +8,7 @@ use Rattle.halfedges.specs.Cage.{NEXT, PREV, marker}
 use Rattle.connectivity.specs.Tables.{Tables}
 use Rattle.connectivity.specs.Fans.{link, Joined, itself, linked, back, on}
 use Rattle.connectivity.specs.Ruled.{Fanned}
-use Rattle.connectivity.proofs.Turns.{prev-next, prev-0, prev-1, prev-2, prev-past}
+use Rattle.halfedges.proofs.Triangle.{prev-next, prev-0, prev-1, prev-2, prev-past}
 use Rattle.invariance.proofs.Rows.{Row, out, across, home, middle, row-of}
 use Rattle.invariance.proofs.Refinable.{H, TWIN, VERT, EDGE, finer, Refinable, next-in, prev-in, length-twins, length-verts, vert-rows}
 use Rattle.invariance.proofs.NextTwins.{out-inner, across-twin, home-inner, middle-twin}

@@ -17,7 +17,7 @@ use Rattle.laws.proofs.Counting.{sum-ext, sum-add, sum-none, sum-turned, turned
 use Rattle.halfedges.specs.Cage.{NEXT, PREV, marker, border, E, B}
 use Rattle.connectivity.specs.Tables.{Tables}
 use Rattle.connectivity.specs.Ruled.{Paired}
-use Rattle.connectivity.proofs.Turns.{prev-next, next-prev, round}
+use Rattle.halfedges.proofs.Triangle.{prev-next, next-prev, round}
 use Rattle.connectivity.proofs.EdgeCount.{twin-has-twin, twice-edges}
 use Rattle.invariance.proofs.Rows.{Row, out, across, home, middle, row-of, sum-rows}
 use Rattle.invariance.proofs.Refinable.{H, TWIN, finer, Refinable, next-in, prev-in, length-twins, twin-rows}

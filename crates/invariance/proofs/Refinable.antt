@@ -10,7 +10,7 @@ use Rattle.halfedges.specs.Cage.{NEXT, PREV, marker, cell, above, E}
 use Rattle.connectivity.specs.Tables.{Tables, countsOf}
 use Rattle.connectivity.specs.Ruled.{Shaped, Ruled}
 use Rattle.connectivity.specs.NextLevel.{whereTwin, newTwin, newVert, newEdge, nextTwins, nextVerts, nextEdges, next}
-use Rattle.connectivity.proofs.Turns.{next-below, prev-below}
+use Rattle.halfedges.proofs.Triangle.{next-below, prev-below}
 use Rattle.invariance.proofs.Rows.{Rows, rows-hold}
 
 abbrev pub H : Tables → ℕ

@@ -24,7 +24,7 @@ use Rattle.laws.proofs.Pigeonhole.{some-counted, count-at-most, count-at-most-o
 use Rattle.halfedges.specs.Cage.{NEXT, F, marker, cell, border}
 use Rattle.connectivity.specs.Tables.{Tables, leaves}
 use Rattle.connectivity.specs.Ruled.{Shaped, Ruled}
-use Rattle.connectivity.proofs.Turns.{next-0, next-1, next-2, round}
+use Rattle.halfedges.proofs.Triangle.{next-0, next-1, next-2, round}
 use Rattle.connectivity.proofs.Joined.{one-border}
 use Rattle.connectivity.proofs.EdgeCount.{twin-has-twin, partner, partner-border, partner-inner, pairing}
 use Rattle.invariance.specs.Invariance.{verticesIn, cornersAt}

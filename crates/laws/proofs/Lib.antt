@@ -10,3 +10,4 @@ pub mod InFront
 pub mod Counting
 pub mod Pigeonhole
 pub mod Least
+pub mod Subsets

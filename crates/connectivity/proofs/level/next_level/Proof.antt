@@ -4,7 +4,7 @@ use mathlib.Core.Path.{_≡_, refl, _∙_}
 use borrow.Author.Needs.{needs}
 use native.Mathlib.Omega.{arith}
 use Rattle.halfedges.specs.Cage.{PREV}
-use Rattle.halfedges.proofs.Triangle.{previous-first, previous-else}
+use Rattle.halfedges.proofs.Triangle.{prev-first, prev-other}
 use Rattle.connectivity.specs.Tables.{Tables, tables}
 use Rattle.connectivity.proofs.Written.{Going, going-start, going-on, going-stands, going-long}
 use Rattle.connectivity.proofs.level.next_level.Statement.{statement}
@@ -34,13 +34,13 @@ module _ (i : tie.In-loop Inv-loop μ-loop) where
   room = omega (arith, start .pre .sound .whole, i .before .loop .inv .1, i .before .loop .inv .3, i .loop-test .taken)
 
   first-previous : h + 2 ≡ PREV h
-  first-previous = omega (arith, previous-first h (i .before .loop .inv .1))
+  first-previous = omega (arith, prev-first h (i .before .loop .inv .1))
 
   second-previous : h ≡ PREV (h + 1)
-  second-previous = omega (arith, i .before .loop .inv .1, previous-else (h + 1) (omega (arith, i .before .loop .inv .1)))
+  second-previous = omega (arith, i .before .loop .inv .1, prev-other (h + 1) (omega (arith, i .before .loop .inv .1)))
 
   third-previous : h + 1 ≡ PREV (h + 2)
-  third-previous = omega (arith, i .before .loop .inv .1, previous-else (h + 2) (omega (arith, i .before .loop .inv .1)))
+  third-previous = omega (arith, i .before .loop .inv .1, prev-other (h + 2) (omega (arith, i .before .loop .inv .1)))
 
 loop-holds : tie.Need-loop-holds Inv-loop μ-loop
 loop-holds c = (going-start _ _ _ (c .before .before .before .pre), omega arith, omega arith, refl)

@@ -43,10 +43,9 @@ loop-less c = search needs
 loop-again : tie.Need-loop-again Inv-loop μ-loop
 loop-again c =
     let i = c .before .before in
-    let from = i .before .args .from .now in
-    (
+    let from = i .before .args .from .now in (
       ap (λ l. set l (i .loop .place) (getD from (i .loop .place) 0)) (i .loop .inv .0)
-      ∙ copied-more from (i .before .args .to .now) (i .loop .place) 0 (omega (arith, i .before .pre)) (omega arith),
+          ∙ copied-more from (i .before .args .to .now) (i .loop .place) 0 (omega (arith, i .before .pre)) (omega arith),
       omega arith,
       i .loop .inv .2,
     )

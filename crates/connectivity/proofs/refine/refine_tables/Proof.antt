@@ -64,8 +64,7 @@ returns-2 c =
     let s = p .before .before .before .before .before .before .before .before .before .before in
     let cage = tables (s .args .cage-twin .now) (s .args .cage-vert .now) (s .args .cage-edge .now) in
     let x = tables (s .args .twin .now) (s .args .vert .now) (s .args .edge .now) in
-    let r = refine-done cage (s .args .vertices) (s .args .depth) x (p .plan .result) (p .plan .ensures) (i .before .number .ensures) (i .if1 .left) in
-    (
+    let r = refine-done cage (s .args .vertices) (s .args .depth) x (p .plan .result) (p .plan .ensures) (i .before .number .ensures) (i .if1 .left) in (
       c .count .ensures ∙ ap (λ t. countQuestion t (s .args .depth)) (f .before .before .before .before .counts-of .ensures) ∙ r .0,
       f .fill .ensures ∙ ap (λ t. tablesInFront (levelsEndToEnd t cage (s .args .depth)) x) (f .before .before .before .before .counts-of .ensures) ∙ r .1,
     )
