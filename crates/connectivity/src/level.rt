@@ -39,14 +39,14 @@ fn outer_twin(twin: u32) -> u32
 }
 
 // The twin of 3h+2, where t' is that of the halfedge before h: 3·t'.
-fn inner_twin(twin: u32) -> u32
-    requires { ⌜ (twin ≢ marker → twin < 4194304) ⌝ }
-    ensures { λ r. ⌜ r ≡ cond (eqb twin marker) marker (3 * twin) ⌝ }
+fn inner_twin(twin_previous: u32) -> u32
+    requires { ⌜ («twin_previous» ≢ marker → «twin_previous» < 4194304) ⌝ }
+    ensures { λ r. ⌜ r ≡ cond (eqb «twin_previous» marker) marker (3 * «twin_previous») ⌝ }
 {
-    if twin == HalfedgeTable::NO_TWIN {
+    if twin_previous == HalfedgeTable::NO_TWIN {
         return HalfedgeTable::NO_TWIN;
     }
-    3 * twin
+    3 * twin_previous
 }
 
 // One half of an edge: twice its number, and one of two numbers more.

@@ -103,9 +103,9 @@ fn plan(
 ) -> Answer
     ensures { λ r. ⌜ told r ≡ refineTablesVerdict (tables (now («cage_twin» .entry)) (now («cage_vert» .entry)) (now («cage_edge» .entry))) vertices depth (tables (now (twin .entry)) (now (vert .entry)) (now (edge .entry))) ⌝ }
 {
-    let answer = check::check_for_depth(cage_twin, cage_vert, cage_edge, vertices, depth);
-    if answer.number() != 0 {
-        return answer;
+    let cage = check::check_for_depth(cage_twin, cage_vert, cage_edge, vertices, depth);
+    if cage.number() != 0 {
+        return cage;
     }
     let levels = counts_of(cage_twin, vertices).levels(depth);
     short_table(levels.halfedge_room, twin, vert, edge)
