@@ -11,7 +11,7 @@ use lib.Dec.{eqb}
 use lib.ListN.{length}
 use borrow.Author.Tests.{eq-eqb, ne-eqb}
 use Rattle.laws.specs.Below.{any, count}
-use Rattle.laws.proofs.Tests.{by-test}
+use Rattle.laws.proofs.Tests.{by-test, same-eqb}
 use Rattle.laws.proofs.Counts.{count-one, count-split, any-count}
 use Rattle.halfedges.specs.Cage.{marker, cell}
 use Rattle.connectivity.specs.Tables.{leaves}
@@ -25,14 +25,6 @@ pub unused-count : (vert : List ℕ) (v : ℕ) → unused vert v ≡ eqb (count 
 unfolding unused
 unused-count vert v = rw (any-count (length vert) (leaves vert v)) (not-not _)
 
--- a number is the known part where nothing is left
-same-part : (a b k : ℕ) → a ≡ b + k → eqb a b ≡ eqb k 0
-same-part a b k e = by (ℕ-discrete k 0)
-  where
-    by : Dec (k ≡ 0) → eqb a b ≡ eqb k 0
-    by (yes z) = eq-eqb a b (omega arith) ∙ sym (eq-eqb k 0 z)
-    by (no z) = ne-eqb a b (omega (arith, z)) ∙ sym (ne-eqb k 0 z)
-
 module _ (twin edge : List ℕ) (h : ℕ) (l : h < length edge) where
   abbrev carries : ℕ → Bool
   carries = leaves edge (cell edge h)
@@ -45,7 +37,7 @@ module _ (twin edge : List ℕ) (h : ℕ) (l : h < length edge) where
   unfolding stranger
   alone-count m s =
       any-count (length edge) (stranger twin edge h)
-      ∙ ap not (sym (same-part (count (length edge) carries) 1 (count (length edge) (stranger twin edge h)) parts))
+      ∙ ap not (sym (same-eqb (count (length edge) carries) 1 (count (length edge) (stranger twin edge h)) 0 (λ e. omega (arith, parts)) (λ e. omega (arith, parts))))
     where
       each : (g : ℕ) → g < length edge → cond (carries g) 1 0 ≡ cond (eqb g h) 1 0 + cond (stranger twin edge h g) 1 0
       each g lg = by (ℕ-discrete g h)
@@ -65,7 +57,7 @@ module _ (twin edge : List ℕ) (h : ℕ) (l : h < length edge) where
   unfolding stranger
   paired-count lt ne same =
       any-count (length edge) (stranger twin edge h)
-      ∙ ap not (sym (same-part (count (length edge) carries) 2 (count (length edge) (stranger twin edge h)) parts))
+      ∙ ap not (sym (same-eqb (count (length edge) carries) 2 (count (length edge) (stranger twin edge h)) 0 (λ e. omega (arith, parts)) (λ e. omega (arith, parts))))
     where
       rest : ℕ → Bool
       rest g = carries g && not (eqb g h)

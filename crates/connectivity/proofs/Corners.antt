@@ -12,9 +12,9 @@ use lib.ListN.{length, getD, set}
 use lib.Seq.{getD-set-same, getD-set-other}
 use borrow.Author.Tests.{eq-eqb, not-true}
 use Rattle.laws.specs.Below.{any, count}
-use Rattle.laws.proofs.Tests.{by-test, any-true, true-any}
+use Rattle.laws.proofs.Tests.{by-test, same-tests, any-true, true-any}
 use Rattle.laws.proofs.Pigeonhole.{and-both}
-use Rattle.laws.proofs.Subsets.{same-tests, count-part}
+use Rattle.laws.proofs.Subsets.{count-part}
 use Rattle.halfedges.specs.Cage.{PREV, cell}
 use Rattle.connectivity.specs.Tables.{leaves}
 use Rattle.connectivity.specs.Fans.{Joined, back, on, joined, notOneFan}

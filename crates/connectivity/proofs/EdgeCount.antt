@@ -16,8 +16,10 @@ use native.Mathlib.Omega.{arith}
 use lib.Dec.{ltb}
 use lib.ListN.{length}
 use borrow.Author.Tests.{eq-eqb, ne-eqb, lt-ltb, le-ltb}
-use Rattle.laws.proofs.Counting.{sum-ext, sum-add, sum-ones, sum-turned, Turning}
-use Rattle.laws.proofs.Pigeonhole.{count-at-most, onto}
+use Rattle.laws.proofs.Sums.{sum-same, sum-add, sum-ones}
+use Rattle.laws.proofs.Counts.{count-at-most}
+use Rattle.laws.proofs.Turnings.{Turning, sum-turned}
+use Rattle.laws.proofs.Pigeonhole.{onto}
 use Rattle.halfedges.specs.Cage.{marker, cell, border, above, E, B}
 use Rattle.halfedges.specs.Counts.{countShape}
 use Rattle.connectivity.specs.Tables.{Tables, countsOf}
@@ -85,7 +87,7 @@ module _ (twin : List ℕ) (small : length twin ≤ marker) (p : Paired twin) wh
         arith,
         sum-turned (length twin) (partner twin) (partner twin) one pairing,
         sum-add (length twin) one (λ h. one (partner twin h)),
-        sum-ext (length twin) (λ h. one h + one (partner twin h)) (λ h. 1 + cond (border twin h) 1 0) (λ h l. both h l (ℕ-discrete (cell twin h) marker)),
+        sum-same (length twin) (λ h. one h + one (partner twin h)) (λ h. 1 + cond (border twin h) 1 0) (λ h l. both h l (ℕ-discrete (cell twin h) marker)),
         sum-add (length twin) (λ h. 1) (λ h. cond (border twin h) 1 0),
         sum-ones (length twin),
       )

@@ -8,7 +8,7 @@ use native.Mathlib.Omega.{arith}
 use lib.Dec.{ltb}
 use lib.ListN.{length}
 use borrow.Author.Tests.{ltb-false, ne-eqb}
-use Rattle.laws.proofs.Pigeonhole.{count-at-most}
+use Rattle.laws.proofs.Counts.{count-at-most}
 use Rattle.halfedges.specs.Cage.{most-halfedges, most-depth, above, E}
 use Rattle.halfedges.specs.declared.answer.Answer.{Answer}
 use Rattle.halfedges.specs.Refusals.{Verdict, DONE, ROOM, told, short, first, said, filled}

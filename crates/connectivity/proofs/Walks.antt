@@ -17,10 +17,10 @@ use lib.Dec.{eqb}
 use lib.ListN.{length}
 use borrow.Author.Tests.{eq-eqb, ne-eqb, eqb-true}
 use Rattle.laws.specs.Below.{count}
-use Rattle.laws.proofs.Tests.{by-test, or-true}
+use Rattle.laws.proofs.Tests.{by-test, or-true, same-tests}
 use Rattle.laws.proofs.Counts.{count-one, count-at-most}
-use Rattle.laws.proofs.Counting.{sum-ext}
-use Rattle.laws.proofs.Subsets.{same-tests, count-more}
+use Rattle.laws.proofs.Sums.{sum-same}
+use Rattle.laws.proofs.Subsets.{count-more}
 use Rattle.halfedges.specs.Cage.{NEXT, PREV, marker, cell}
 use Rattle.connectivity.specs.Fans.{link, Joined, itself, linked, back, on, joined}
 use Rattle.connectivity.specs.Walks.{Walkable, fanSize}
@@ -67,7 +67,7 @@ module _ (twin : List ℕ) (w : Walkable twin) where
   -- a test that just the halfedges joined with g pass counts its fan
   size-by : (g : ℕ) → g < length twin → (p : ℕ → Bool) → ((h : ℕ) → h < length twin → (p h ≡ true) ↔ Joined twin g h) → fanSize twin g ≡ count (length twin) p
   unfolding fanSize
-  size-by g lg p f = sum-ext (length twin) _ _ (λ h l. ap (λ b. cond b 1 0) (same-tests (joined twin g h) (p h) (Iff·trans (joined-iff g h lg l) (Iff·symm (f h l)))))
+  size-by g lg p f = sum-same (length twin) _ _ (λ h l. ap (λ b. cond b 1 0) (same-tests (joined twin g h) (p h) (Iff·trans (joined-iff g h lg l) (Iff·symm (f h l)))))
 
   -- ---- steps
 

@@ -13,7 +13,7 @@ use native.Mathlib.Decide.{ℕ-discrete}
 use native.Mathlib.Nat.{mul-mod-right}
 use native.Mathlib.Omega.{arith}
 use borrow.Author.Tests.{eq-eqb, ne-eqb}
-use Rattle.laws.proofs.Counting.{Turning}
+use Rattle.laws.proofs.Turnings.{Turning}
 use Rattle.halfedges.specs.Cage.{NEXT, PREV}
 
 pub next-last : (h : ℕ) → h % 3 ≡ 2 → NEXT h ≡ h - 2

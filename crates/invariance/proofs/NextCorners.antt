@@ -12,7 +12,9 @@ use native.Mathlib.Omega.{arith}
 use lib.Dec.{eqb}
 use borrow.Author.Tests.{eq-eqb, ne-eqb}
 use Rattle.laws.specs.Below.{sum, count}
-use Rattle.laws.proofs.Counting.{sum-ext, sum-add, sum-none, sum-at, sum-turned, turned-back, same-eqb}
+use Rattle.laws.proofs.Tests.{same-eqb}
+use Rattle.laws.proofs.Sums.{sum-same, sum-add, sum-none, sum-at}
+use Rattle.laws.proofs.Turnings.{turned-back, sum-turned}
 use Rattle.halfedges.specs.Cage.{NEXT, PREV, marker, E}
 use Rattle.connectivity.specs.Tables.{Tables}
 use Rattle.halfedges.proofs.Triangle.{next-0, next-2, prev-next, next-prev, round}
@@ -40,8 +42,8 @@ module _ {c : Tables} {v : ℕ} (q : Refinable c v) where
       rw (length-twins q)
       (sum-rows (H c) (λ k. one u (VERT (finer c v) k))
       ∙ ap₂ _+_
-      (sum-ext (H c) _ (outer u) (λ h l. ap₂ _+_ (ap₂ _+_ (ap (one u) (vert-rows q .out l)) (ap (one u) (vert-rows q .across l))) (ap (one u) (vert-rows q .home l))))
-      (sum-ext (H c) _ (inner u) (λ h l. ap (one u) (vert-rows q .middle l))))
+      (sum-same (H c) _ (outer u) (λ h l. ap₂ _+_ (ap₂ _+_ (ap (one u) (vert-rows q .out l)) (ap (one u) (vert-rows q .across l))) (ap (one u) (vert-rows q .home l))))
+      (sum-same (H c) _ (inner u) (λ h l. ap (one u) (vert-rows q .middle l))))
 
   pub old-corners : (u : ℕ) → u < v → cornersAt (finer c v) u ≡ cornersAt c u
   unfolding cornersAt
@@ -49,7 +51,7 @@ module _ {c : Tables} {v : ℕ} (q : Refinable c v) where
       by-rows u
       ∙ omega (
         arith,
-        sum-ext (H c) (outer u) (λ h. one u (VERT c h)) (λ h lh. rw (ne-eqb (v + EDGE c h) u (omega arith), ne-eqb (v + EDGE c (PREV h)) u (omega arith)) (omega arith)),
+        sum-same (H c) (outer u) (λ h. one u (VERT c h)) (λ h lh. rw (ne-eqb (v + EDGE c h) u (omega arith), ne-eqb (v + EDGE c (PREV h)) u (omega arith)) (omega arith)),
         sum-none (H c) (inner u) (λ h lh. rw (ne-eqb (v + EDGE c (PREV h)) u (omega arith))),
       )
 
@@ -63,10 +65,10 @@ module _ {c : Tables} {v : ℕ} (q : Refinable c v) where
       by-rows (v + e)
       ∙ omega (
         arith,
-        sum-ext (H c) (outer (v + e)) (λ h. carries h + carries (PREV h))
+        sum-same (H c) (outer (v + e)) (λ h. carries h + carries (PREV h))
             (λ h l. rw (ne-eqb (VERT c h) (v + e) (omega (arith, q .ruled .placed .below h l)), past (EDGE c h), past (EDGE c (PREV h))) (omega arith)),
         sum-add (H c) carries (λ h. carries (PREV h)),
-        sum-ext (H c) (inner (v + e)) (λ h. carries (PREV h)) (λ h l. rw (past (EDGE c (PREV h)))),
+        sum-same (H c) (inner (v + e)) (λ h. carries (PREV h)) (λ h l. rw (past (EDGE c (PREV h)))),
         sum-turned (H c) PREV NEXT carries (turned-back (round (q .shaped .whole))),
       )
     where
@@ -83,7 +85,7 @@ module _ {c : Tables} {v : ℕ} (q : Refinable c v) where
         new-corners (EDGE c h)
         ∙ omega (
           arith,
-          sum-ext (H c) (λ g. one (EDGE c h) (EDGE c g)) (one h)
+          sum-same (H c) (λ g. one (EDGE c h) (EDGE c g)) (one h)
               (λ g lg. rw (same-eqb (EDGE c g) (EDGE c h) g h (λ e. alone g lg (q .ruled .numbered .own g h lg l e)) (λ e. ap (EDGE c) e))),
           sum-at (H c) h (λ g. 1) l,
         )
@@ -98,7 +100,7 @@ module _ {c : Tables} {v : ℕ} (q : Refinable c v) where
         new-corners (EDGE c h)
         ∙ omega (
           arith,
-          sum-ext (H c) (λ g. one (EDGE c h) (EDGE c g)) (λ g. one h g + one (TWIN c h) g) (λ g lg. both g lg (ℕ-discrete g h) (ℕ-discrete g (TWIN c h))),
+          sum-same (H c) (λ g. one (EDGE c h) (EDGE c g)) (λ g. one h g + one (TWIN c h) g) (λ g lg. both g lg (ℕ-discrete g h) (ℕ-discrete g (TWIN c h))),
           sum-add (H c) (one h) (one (TWIN c h)),
           sum-at (H c) h (λ g. 1) l,
           sum-at (H c) (TWIN c h) (λ g. 1) (q .ruled .paired .below h l n),

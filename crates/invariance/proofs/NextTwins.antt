@@ -13,7 +13,9 @@ use native.Mathlib.Decide.{ℕ-discrete}
 use native.Mathlib.Omega.{arith}
 use lib.ListN.{length}
 use borrow.Author.Tests.{eq-eqb, ne-eqb}
-use Rattle.laws.proofs.Counting.{sum-ext, sum-add, sum-none, sum-turned, turned-back, same-eqb}
+use Rattle.laws.proofs.Tests.{same-eqb}
+use Rattle.laws.proofs.Sums.{sum-same, sum-add, sum-none}
+use Rattle.laws.proofs.Turnings.{turned-back, sum-turned}
 use Rattle.halfedges.specs.Cage.{NEXT, PREV, marker, border, E, B}
 use Rattle.connectivity.specs.Tables.{Tables}
 use Rattle.connectivity.specs.Ruled.{Paired}
@@ -98,7 +100,7 @@ module _ {c : Tables} {v : ℕ} (q : Refinable c v) where
       (omega (
         arith,
         sum-rows (H c) (λ k. cond (border (finer c v .twin) k) 1 0),
-        sum-ext (H c) _ (λ h. one h + one (PREV h)) corner,
+        sum-same (H c) _ (λ h. one h + one (PREV h)) corner,
         sum-add (H c) one (λ h. one (PREV h)),
         sum-turned (H c) PREV NEXT one (turned-back (round (q .shaped .whole))),
         sum-none (H c) (λ h. cond (border (finer c v .twin) (3 * H c + h)) 1 0) (λ h l. rw (ne-eqb _ marker (middle-inner q l))),

@@ -10,7 +10,7 @@ use native.Mathlib.Omega.{arith}
 use borrow.Author.Tests.{eq-eqb, ne-eqb, lt-ltb, le-ltb}
 use Rattle.laws.specs.Below.{tabulate, sum}
 use Rattle.laws.proofs.Tabulate.{getD-tabulate}
-use Rattle.laws.proofs.Counting.{sum-split, sum-triples}
+use Rattle.laws.proofs.Sums.{sum-split, sum-triples}
 use Rattle.halfedges.specs.Cage.{cell}
 use Rattle.connectivity.specs.NextLevel.{rows}
 

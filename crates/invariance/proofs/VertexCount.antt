@@ -19,8 +19,10 @@ use Rattle.laws.specs.Below.{sum, count, any}
 use Rattle.laws.proofs.Tests.{true-any, false-any}
 use Rattle.laws.proofs.Least.{least}
 use Rattle.laws.proofs.Sums.{sum-at-most}
-use Rattle.laws.proofs.Counting.{sum-ext, sum-add, sum-ones, sum-triples, sum-turned}
-use Rattle.laws.proofs.Pigeonhole.{some-counted, count-at-most, count-at-most-one, sum-of-counts, and-both}
+use Rattle.laws.proofs.Sums.{sum-same, sum-add, sum-ones, sum-triples}
+use Rattle.laws.proofs.Counts.{count-at-most}
+use Rattle.laws.proofs.Turnings.{sum-turned}
+use Rattle.laws.proofs.Pigeonhole.{some-counted, count-at-most-one, sum-of-counts, and-both}
 use Rattle.halfedges.specs.Cage.{NEXT, F, marker, cell, border}
 use Rattle.connectivity.specs.Tables.{Tables, leaves}
 use Rattle.connectivity.specs.Ruled.{Shaped, Ruled}
@@ -76,7 +78,7 @@ module _ {c : Tables} {v : ℕ} (s : Shaped c) (r : Ruled c v) where
   unfolding verticesIn
   vertices-counted =
       sym (sum-of-counts (length (c .vert)) v (lowest (c .vert)) (cell (c .vert)) (λ h l e. r .placed .below h (rw (s .vert-long) at l)))
-      ∙ sum-ext v _ (λ u. 1) one-lowest ∙ sum-ones v
+      ∙ sum-same v _ (λ u. 1) one-lowest ∙ sum-ones v
 
   pub vertices-at-most : v ≤ H c
   unfolding verticesIn
@@ -112,7 +114,7 @@ module _ {c : Tables} {v : ℕ} (s : Shaped c) (r : Ruled c v) where
           parts (leaves (c .vert) u),
           sum-turned (H c) NEXT _ (λ h. cond (leaves (c .vert) u h) 1 0) (round (s .whole)),
           sum-turned (H c) (partner (c .twin)) _ (inner (leaves (c .vert) u)) (pairing (c .twin) small (r .paired)),
-          sum-ext (H c) (λ h. inner (leaves (c .vert) u) (partner (c .twin) h)) (inner ends) (λ h l. across h l (ℕ-discrete (TWIN c h) marker)),
+          sum-same (H c) (λ h. inner (leaves (c .vert) u) (partner (c .twin) h)) (inner ends) (λ h l. across h l (ℕ-discrete (TWIN c h) marker)),
         ))
       where
         ends : ℕ → Bool
@@ -127,7 +129,7 @@ module _ {c : Tables} {v : ℕ} (s : Shaped c) (r : Ruled c v) where
         split false b = omega arith
 
         parts : (p : ℕ → Bool) → count (H c) (λ h. border (c .twin) h && p h) + sum (H c) (inner p) ≡ count (H c) p
-        parts p = sym (sum-add (H c) _ (inner p)) ∙ sum-ext (H c) _ _ (λ h l. split (border (c .twin) h) (p h))
+        parts p = sym (sum-add (H c) _ (inner p)) ∙ sum-same (H c) _ _ (λ h l. split (border (c .twin) h) (p h))
 
         across : (h : ℕ) → h < H c → Dec (TWIN c h ≡ marker) → inner (leaves (c .vert) u) (partner (c .twin) h) ≡ inner ends h
         across h l (yes m) = rw (partner-border (c .twin) h m, eq-eqb (TWIN c h) marker m)

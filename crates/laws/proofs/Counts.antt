@@ -7,29 +7,23 @@
 use Prim.Native.Nat.{ℕ, zero, suc, _+_, _≤_, _<_}
 use mathlib.Core.Path.{_≡_, refl}
 use mathlib.Core.Bool.{Bool, true, false, cond, not}
-use native.Mathlib.Decide.{ℕ-discrete}
-use native.Mathlib.Nat.{not-suc-le-zero, le-refl}
+use native.Mathlib.Nat.{le-refl}
 use native.Mathlib.Omega.{arith}
 use lib.Dec.{eqb}
-use borrow.Author.Tests.{eq-eqb, ne-eqb}
+use borrow.Author.Tests.{ne-eqb}
 use Rattle.laws.specs.Below.{count, any}
 use Rattle.laws.proofs.Tests.{by-test, or-true, or-false-right}
+use Rattle.laws.proofs.Sums.{sum-none, sum-at}
 
 pub count-at-most : (n : ℕ) (p : ℕ → Bool) → count n p ≤ n
 count-at-most zero p = omega arith
 count-at-most (suc n) p = by-test (p n) (λ e. rw e (omega (arith, count-at-most n p))) (λ e. rw e (omega (arith, count-at-most n p)))
 
 pub count-none : (n : ℕ) (p : ℕ → Bool) → ((k : ℕ) → k < n → p k ≡ false) → count n p ≡ 0
-count-none zero p e = refl
-count-none (suc n) p e = rw (e n (le-refl _)) (omega (arith, count-none n p (λ k l. e k (omega arith))))
+count-none n p e = sum-none n (λ k. cond (p k) 1 0) (λ k l. rw (e k l))
 
 pub count-one : (n h : ℕ) → h < n → count n (λ k. eqb k h) ≡ 1
-count-one zero h l = absurd (not-suc-le-zero l)
-count-one (suc n) h l = by (ℕ-discrete n h) (λ m. count-one n h m)
-  where
-    by : Dec (n ≡ h) → (h < n → count n (λ k. eqb k h) ≡ 1) → count (suc n) (λ k. eqb k h) ≡ 1
-    by (yes e) ih = rw (eq-eqb n h e) (omega (arith, count-none n (λ k. eqb k h) (λ k m. ne-eqb k h (omega arith))))
-    by (no e) ih = rw (ne-eqb n h e) (omega (arith, ih (omega (arith, e))))
+count-one n h l = sum-at n h (λ k. 1) l
 
 pub count-split : (n : ℕ) (p q r : ℕ → Bool) → ((k : ℕ) → k < n → cond (p k) 1 0 ≡ cond (q k) 1 0 + cond (r k) 1 0) → count n p ≡ count n q + count n r
 count-split zero p q r e = refl

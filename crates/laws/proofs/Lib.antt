@@ -7,7 +7,7 @@ pub mod Bumped
 pub mod Parts
 pub mod EndToEnd
 pub mod InFront
-pub mod Counting
+pub mod Turnings
 pub mod Pigeonhole
 pub mod Least
 pub mod Subsets

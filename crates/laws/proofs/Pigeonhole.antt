@@ -1,7 +1,6 @@
 -- Counting what has different values. Assumes nothing.
 --     counted, some-counted         a count is not 0 where one passes, and only there
 --     and-both                      both parts of a conjunction that holds
---     count-at-most                 at most all
 --     count-at-most-one             at most one, where no two pass
 --     sum-of-counts                 what passes, counted by its value
 --     at-most-the-values, onto      different values below m: at most m pass; where m pass, every value is met
@@ -17,8 +16,7 @@ use lib.Dec.{eqb}
 use borrow.Author.Tests.{eqb-true}
 use Rattle.laws.specs.Below.{sum, count}
 use Rattle.laws.proofs.Tests.{by-test}
-use Rattle.laws.proofs.Sums.{sum-at-most}
-use Rattle.laws.proofs.Counting.{sum-ext, sum-ones, sum-none, sum-swap, sum-at}
+use Rattle.laws.proofs.Sums.{sum-at-most, sum-same, sum-ones, sum-none, sum-swap, sum-at}
 
 pub counted : (n : ℕ) (p : ℕ → Bool) → 0 < count n p → (k : ℕ) × (k < n) × (p k ≡ true)
 counted zero p l = absurd (not-suc-le-zero l)
@@ -34,10 +32,6 @@ some-counted (suc n) p k l e = by (ℕ-discrete k n) (λ b. some-counted n p k b
     by : Dec (k ≡ n) → (k < n → 0 < count n p) → 0 < count (suc n) p
     by (yes q) ih = rw (ap p (sym q) ∙ e) (omega arith)
     by (no q) ih = omega (arith, ih (omega (arith, q)))
-
-pub count-at-most : (n : ℕ) (p : ℕ → Bool) → count n p ≤ n
-count-at-most zero p = omega arith
-count-at-most (suc n) p = by-test (p n) (λ e. rw e (omega (arith, count-at-most n p))) (λ e. rw e (omega (arith, count-at-most n p)))
 
 pub count-at-most-one : (n : ℕ) (p : ℕ → Bool) → ((i j : ℕ) → i < n → j < n → p i ≡ true → p j ≡ true → i ≡ j) → count n p ≤ 1
 count-at-most-one zero p u = omega arith
@@ -64,7 +58,7 @@ and-both false b e = absurd (true≢false (sym e))
 
 module _ (n m : ℕ) (p : ℕ → Bool) (f : ℕ → ℕ) (below : (k : ℕ) → k < n → p k ≡ true → f k < m) where
   pub sum-of-counts : sum m (λ v. count n (λ k. p k && eqb v (f k))) ≡ count n p
-  sum-of-counts = sum-swap m n (λ v k. cond (p k && eqb v (f k)) 1 0) ∙ sum-ext n _ (λ k. cond (p k) 1 0) each
+  sum-of-counts = sum-swap m n (λ v k. cond (p k && eqb v (f k)) 1 0) ∙ sum-same n _ (λ k. cond (p k) 1 0) each
     where
       each : (k : ℕ) → k < n → sum m (λ v. cond (p k && eqb v (f k)) 1 0) ≡ cond (p k) 1 0
       each k l = by-test (p k) (λ e. rw e (sum-at m (f k) (λ v. 1) (below k l e))) (λ e. rw e (sum-none m (λ v. 0) (λ v b. refl)))

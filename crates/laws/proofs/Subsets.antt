@@ -1,24 +1,16 @@
 -- Sets of numbers below n, as tests. Assumes nothing.
---     same-tests     tests that hold together are the same
 --     count-more     one number more
 --     count-part     something is left of the whole where a part has not as many numbers
 use Prim.Native.Nat.{ℕ, _+_, _<_}
 use mathlib.Core.Path.{_≡_, refl, sym, ap, _∙_}
-use mathlib.Core.Logic.{_↔_}
 use mathlib.Core.Bool.{Bool, true, false, cond, not, _&&_, _||_}
 use native.Mathlib.Decide.{ℕ-discrete}
 use native.Mathlib.Omega.{arith}
 use lib.Dec.{eqb}
 use borrow.Author.Tests.{eq-eqb, ne-eqb}
 use Rattle.laws.specs.Below.{any, count}
-use Rattle.laws.proofs.Tests.{by-test}
+use Rattle.laws.proofs.Tests.{by-test, same-eqb}
 use Rattle.laws.proofs.Counts.{count-one, count-split, any-count}
-use Rattle.laws.proofs.Counting.{same-eqb}
-
-pub same-tests : (a b : Bool) → (a ≡ true) ↔ (b ≡ true) → a ≡ b
-same-tests true b f = sym (f .0 refl)
-same-tests false true f = f .1 refl
-same-tests false false f = refl
 
 pub count-more : (n x : ℕ) (p : ℕ → Bool) → x < n → p x ≡ false → count n (λ k. eqb k x || p k) ≡ count n p + 1
 count-more n x p l e = omega (arith, count-split n (λ k. eqb k x || p k) (λ k. eqb k x) p (λ k b. by k (ℕ-discrete k x)), count-one n x l)

@@ -2,14 +2,18 @@
 --     or-false, or-false₃      every part of a disjunction that fails
 --     and-false                a conjunction with a part that fails
 --     by-test                  a test holds or fails
+--     same-tests, same-eqb     tests that hold together are the same
 --     any-false, any-true      a test that no number below n passes, or one does
 --     false-any, true-any      the other way round
 use Prim.Native.Nat.{ℕ, zero, suc, _<_}
 use mathlib.Core.Path.{_≡_, refl, sym, _∙_}
+use mathlib.Core.Logic.{_↔_}
 use mathlib.Core.Bool.{Bool, true, false, _&&_, _||_, true≢false}
 use native.Mathlib.Decide.{ℕ-discrete}
 use native.Mathlib.Nat.{not-suc-le-zero, le-refl}
 use native.Mathlib.Omega.{arith}
+use lib.Dec.{eqb}
+use borrow.Author.Tests.{eq-eqb, ne-eqb}
 use Rattle.laws.specs.Below.{any}
 
 pub or-false : (a b : Bool) → (a || b) ≡ false → (a ≡ false) × (b ≡ false)
@@ -38,6 +42,19 @@ or-true false = refl
 pub or-false-right : (a : Bool) → (a || false) ≡ a
 or-false-right true = refl
 or-false-right false = refl
+
+-- tests that hold together are the same
+pub same-tests : (a b : Bool) → (a ≡ true) ↔ (b ≡ true) → a ≡ b
+same-tests true b f = sym (f .0 refl)
+same-tests false true f = f .1 refl
+same-tests false false f = refl
+
+pub same-eqb : (a b c d : ℕ) → (a ≡ b → c ≡ d) → (c ≡ d → a ≡ b) → eqb a b ≡ eqb c d
+same-eqb a b c d f g = by (ℕ-discrete a b)
+  where
+    by : Dec (a ≡ b) → eqb a b ≡ eqb c d
+    by (yes e) = eq-eqb a b e ∙ sym (eq-eqb c d (f e))
+    by (no e) = ne-eqb a b e ∙ sym (ne-eqb c d (λ q. e (g q)))
 
 module _ (p : ℕ → Bool) where
   pub any-false : (n : ℕ) → any n p ≡ false → (k : ℕ) → k < n → p k ≡ false
