@@ -1,3 +1,4 @@
 pub mod Tests
 pub mod Tabulate
 pub mod Sums
+pub mod Integers
