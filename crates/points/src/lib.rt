@@ -1,1 +1,2 @@
-// The points of every level, the whole cage check and refining. Definitions in specs/; the code comes to them.
+// The points of the levels, by document 01's point rules.
+pub mod rules;
