@@ -1,1 +1,5 @@
 pub mod Numerators
+pub mod Triangles
+pub mod Ends
+pub mod Cells
+pub mod Range

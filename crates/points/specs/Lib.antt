@@ -2,3 +2,4 @@ pub mod PointRules
 pub mod NextPoints
 pub mod Operations
 pub mod Relied
+pub mod Passes

@@ -1,0 +1,72 @@
+-- The passes over a level, each by the stores that it makes at one step. The part of the points that is lent starts with the
+-- level's own points, 3n cells for n vertices. The next level's follow. The new place of vertex v is at 3n + 3v, where its sums
+-- are kept till then; the point of edge e is at 6n + 3e; and the first n of the edges' cells keep the vertices' counts till then.
+use Prim.Native.Nat.{ℕ, _+_, _*_, _≤_, _<_}
+use mathlib.Core.Path.{_≡_}
+use mathlib.Core.Bool.{Bool, cond, _||_}
+use mathlib.Core.List.{List}
+use mathlib.Core.Logic.{_≢_}
+use lib.Dec.{eqb, ltb}
+use lib.IntN.{ℤ, pos, natAbs, _+ℤ_}
+use lib.ListN.{length, getD, set}
+use Rattle.halfedges.specs.Cage.{cell, border}
+use Rattle.points.specs.PointRules.{V2, V3}
+use Rattle.points.specs.NextPoints.{coordinate, far, edgePoint}
+use Rattle.points.specs.Operations.{most-coordinate}
+use Rattle.points.specs.Relied.{most-corners}
+
+-- what cell i holds
+abbrev pub value : List ℤ → ℕ → ℤ
+value l i = getD l i (pos 0)
+
+-- three numbers from cell i on
+unfoldable pub put : ℕ → (ℕ → ℤ) → List ℤ → List ℤ
+put i g l = set (set (set l i (g 0)) (i + 1) (g 1)) (i + 2) (g 2)
+
+-- 1: a cell of the sums and counts is made 0
+unfoldable pub clearCell : ℕ → ℕ → List ℤ → List ℤ
+clearCell n i l = set l (3 * n + i) (pos 0)
+
+-- the point of vertex b is added to the sums of vertex a
+unfoldable pub addPoint : ℕ → ℕ → ℕ → List ℤ → List ℤ
+addPoint n a b l = put (3 * n + 3 * a) (λ k. value l (3 * n + 3 * a + k) +ℤ coordinate l k b) l
+
+-- a spoke from a to b: b's point is added to a's sums, and one to its count
+unfoldable pub addSpoke : ℕ → ℕ → ℕ → List ℤ → List ℤ
+addSpoke n a b l = set (addPoint n a b l) (6 * n + a) (value l (6 * n + a) +ℤ pos 1)
+
+-- 2: the spoke of halfedge h
+unfoldable pub spoke : List ℕ → ℕ → ℕ → List ℤ → List ℤ
+spoke vert n h l = addSpoke n (cell vert h) (far vert h) l
+
+-- the sums and the count of vertex a are made 0
+unfoldable pub clearVertex : ℕ → ℕ → List ℤ → List ℤ
+clearVertex n a l = set (put (3 * n + 3 * a) (λ k. pos 0) l) (6 * n + a) (pos 0)
+
+-- 3: those of the vertex that a border halfedge h leaves
+unfoldable pub clearBorder : List ℕ → List ℕ → ℕ → ℕ → List ℤ → List ℤ
+clearBorder twin vert n h l = cond (border twin h) (clearVertex n (cell vert h) l) l
+
+-- each end of an edge is added to the other's sums
+unfoldable pub addEnds : ℕ → ℕ → ℕ → List ℤ → List ℤ
+addEnds n a b l = addPoint n b a (addPoint n a b l)
+
+-- 4: the ends of a border halfedge h
+unfoldable pub addBorder : List ℕ → List ℕ → ℕ → ℕ → List ℤ → List ℤ
+addBorder twin vert n h l = cond (border twin h) (addEnds n (cell vert h) (far vert h) l) l
+
+-- a vertex's new place by its count of corners, 0 at the border, its old place x, and its sum
+unfoldable pub settled : ℤ → ℤ → ℤ → ℤ
+settled count x sum = cond (eqb (natAbs count) 0) (V2 x sum) (V3 (natAbs count) x sum)
+
+-- 5: vertex v
+unfoldable pub settle : ℕ → ℕ → List ℤ → List ℤ
+settle n v l = put (3 * n + 3 * v) (λ k. settled (value l (6 * n + v)) (coordinate l k v) (value l (3 * n + 3 * v + k))) l
+
+-- h has no twin or a twin with a higher number: it is the lowest that carries its edge
+abbrev pub lowest-carrier : List ℕ → ℕ → Bool
+lowest-carrier twin h = border twin h || ltb h (cell twin h)
+
+-- 6: the point of h's edge, from the lowest halfedge that carries it
+unfoldable pub putEdge : List ℕ → List ℕ → List ℕ → ℕ → ℕ → List ℤ → List ℤ
+putEdge twin vert edge n h l = cond (lowest-carrier twin h) (put (6 * n + 3 * cell edge h) (edgePoint twin vert l h) l) l
