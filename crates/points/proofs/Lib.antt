@@ -1,5 +1,7 @@
 pub mod Numerators
 pub mod Triangles
 pub mod Ends
-pub mod Cells
+pub mod Only
 pub mod Range
+pub mod Added
+pub mod Gathered

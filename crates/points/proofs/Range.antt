@@ -23,7 +23,7 @@ use Rattle.points.proofs.Numerators.{E1-at-most, E2-at-most, V2-at-most
 use Rattle.points.proofs.Ends.{corners-counted, spokes-are, spokes-at-most, creases-are, creases-at-most}
 
 -- what lies past the end is 0
-any-in-range : (points : List ℤ) → InRange points → (i : ℕ) → natAbs (getD points i (pos 0)) ≤ most-coordinate
+pub any-in-range : (points : List ℤ) → InRange points → (i : ℕ) → natAbs (getD points i (pos 0)) ≤ most-coordinate
 any-in-range points range i = by (decLt i (length points))
   where
     by : Dec (i < length points) → natAbs (getD points i (pos 0)) ≤ most-coordinate

@@ -1,19 +1,19 @@
 -- The passes over a level, each by the stores that it makes at one step. The part of the points that is lent starts with the
 -- level's own points, 3n cells for n vertices. The next level's follow. The new place of vertex v is at 3n + 3v, where its sums
 -- are kept till then; the point of edge e is at 6n + 3e; and the first n of the edges' cells keep the vertices' counts till then.
-use Prim.Native.Nat.{ℕ, _+_, _*_, _≤_, _<_}
+use Prim.Native.Nat.{ℕ, zero, suc, _+_, _*_, _≤_, _<_}
 use mathlib.Core.Path.{_≡_}
 use mathlib.Core.Bool.{Bool, cond, _||_}
 use mathlib.Core.List.{List}
 use mathlib.Core.Logic.{_≢_}
 use lib.Dec.{eqb, ltb}
 use lib.IntN.{ℤ, pos, natAbs, _+ℤ_}
-use lib.ListN.{length, getD, set}
+use lib.ListN.{length, getD, take, set}
 use Rattle.halfedges.specs.Cage.{cell, border}
 use Rattle.points.specs.PointRules.{V2, V3}
 use Rattle.points.specs.NextPoints.{coordinate, far, edgePoint}
 use Rattle.points.specs.Operations.{most-coordinate}
-use Rattle.points.specs.Relied.{most-corners}
+use Rattle.points.specs.Relied.{most-corners, InRange}
 
 -- what cell i holds
 abbrev pub value : List ℤ → ℕ → ℤ
@@ -23,17 +23,52 @@ value l i = getD l i (pos 0)
 unfoldable pub put : ℕ → (ℕ → ℤ) → List ℤ → List ℤ
 put i g l = set (set (set l i (g 0)) (i + 1) (g 1)) (i + 2) (g 2)
 
+-- the coordinates x, y, z
+abbrev pub xyz : ℤ → ℤ → ℤ → ℕ → ℤ
+xyz x y z zero = x
+xyz x y z (suc zero) = y
+xyz x y z (suc (suc k)) = z
+
+-- the level's points are in range, and the sums and the counts have room after them
+pub record Laid (n : ℕ) (l : List ℤ) : Type 0 where
+  pub room : 7 * n ≤ length l
+  pub in-range : InRange (take (3 * n) l)
+
 -- 1: a cell of the sums and counts is made 0
 unfoldable pub clearCell : ℕ → ℕ → List ℤ → List ℤ
 clearCell n i l = set l (3 * n + i) (pos 0)
+
+-- all of them are
+abbrev pub Cleared : ℕ → List ℤ → Type 0
+Cleared n l = (i : ℕ) → i < 4 * n → value l (3 * n + i) ≡ pos 0
 
 -- the point of vertex b is added to the sums of vertex a
 unfoldable pub addPoint : ℕ → ℕ → ℕ → List ℤ → List ℤ
 addPoint n a b l = put (3 * n + 3 * a) (λ k. value l (3 * n + 3 * a + k) +ℤ coordinate l k b) l
 
+-- there is room for it, and no sum wraps
+pub record Adds (n a b : ℕ) (l : List ℤ) : Type 0 where
+  pub in-a : a < n
+  pub in-b : b < n
+  pub room : 7 * n ≤ length l
+  pub fits : (k : ℕ) → k < 3 → natAbs (value l (3 * n + 3 * a + k)) + natAbs (coordinate l k b) < 2147483648
+
 -- a spoke from a to b: b's point is added to a's sums, and one to its count
 unfoldable pub addSpoke : ℕ → ℕ → ℕ → List ℤ → List ℤ
 addSpoke n a b l = set (addPoint n a b l) (6 * n + a) (value l (6 * n + a) +ℤ pos 1)
+
+abbrev pub AddsSpoke : ℕ → ℕ → ℕ → List ℤ → Type 0
+AddsSpoke n a b l = Adds n a b l × (natAbs (value l (6 * n + a)) < most-corners)
+
+-- a triangle's three spokes, by its corners
+unfoldable pub addTriangle : ℕ → List ℕ → List ℤ → List ℤ
+addTriangle n corners l =
+    addSpoke n (cell corners 2) (cell corners 0) (addSpoke n (cell corners 1) (cell corners 2) (addSpoke n (cell corners 0) (cell corners 1) l))
+
+pub record AddsTriangle (n : ℕ) (corners : List ℕ) (l : List ℤ) : Type 0 where
+  pub first : AddsSpoke n (cell corners 0) (cell corners 1) l
+  pub second : AddsSpoke n (cell corners 1) (cell corners 2) (addSpoke n (cell corners 0) (cell corners 1) l)
+  pub third : AddsSpoke n (cell corners 2) (cell corners 0) (addSpoke n (cell corners 1) (cell corners 2) (addSpoke n (cell corners 0) (cell corners 1) l))
 
 -- 2: the spoke of halfedge h
 unfoldable pub spoke : List ℕ → ℕ → ℕ → List ℤ → List ℤ

@@ -1,2 +1,4 @@
 // The points of the levels, by document 01's point rules.
+mod cells;
 pub mod rules;
+mod spokes;

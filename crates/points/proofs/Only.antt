@@ -74,6 +74,6 @@ module _ (to : ℕ) (g : ℕ → ℤ) (l : List ℤ) where
       third = getD-set-same two (to + 2) (g 2) (pos 0) (rw (length-set one (to + 1) (g 1), length-set l to (g 0)) (omega arith))
 
 -- the same numbers, the same cells
-pub put-ext : (to : ℕ) (f g : ℕ → ℤ) (l : List ℤ) → ((k : ℕ) → k < 3 → f k ≡ g k) → put to f l ≡ put to g l
+pub put-same : (to : ℕ) (f g : ℕ → ℤ) (l : List ℤ) → f 0 ≡ g 0 → f 1 ≡ g 1 → f 2 ≡ g 2 → put to f l ≡ put to g l
 unfolding put
-put-ext to f g l same = rw (same 0 (omega arith), same 1 (omega arith), same 2 (omega arith))
+put-same to f g l x y z = rw (x, y, z)
