@@ -1,6 +1,6 @@
--- Laws of steps taken one after the other: `steps-none`, `steps-more`, `steps-three`, and induction, `steps-keep`. Assumes nothing.
+-- Laws of steps taken one after the other: `steps-none`, `steps-more`, `steps-on`, `steps-three`, and induction, `steps-keep`. Assumes nothing.
 use Prim.Native.Nat.{ℕ, zero, suc, _+_, _*_, _≤_, _<_}
-use mathlib.Core.Path.{_≡_, refl, ap, _∙_}
+use mathlib.Core.Path.{_≡_, refl, sym, ap, _∙_}
 use native.Mathlib.Numerals.{add-one}
 use native.Mathlib.Omega.{arith}
 use Rattle.laws.specs.Steps.{steps}
@@ -13,6 +13,10 @@ module _ {A : Type 0} (f : ℕ → A → A) (x : A) where
   pub steps-more : (n : ℕ) → steps (n + 1) f x ≡ f n (steps n f x)
   unfolding steps
   steps-more n = rw add-one
+
+  -- a loop's turn
+  pub steps-on : (n : ℕ) {y z : A} → y ≡ steps n f x → z ≡ f n y → z ≡ steps (n + 1) f x
+  steps-on n e d = d ∙ ap (f n) e ∙ sym (steps-more n)
 
   -- three at once, as of a triangle's three halfedges
   pub steps-three : (n : ℕ) → steps (3 * (n + 1)) f x ≡ f (3 * n + 2) (f (3 * n + 1) (f (3 * n) (steps (3 * n) f x)))

@@ -5,3 +5,5 @@ pub mod Only
 pub mod Range
 pub mod Added
 pub mod Gathered
+pub mod Cleared
+pub mod Joined

@@ -1,6 +1,7 @@
 -- What stores leave in the other cells (`Only`), and in the three cells of a point (`put-hit`, `put-only`). Assumes nothing.
 use Prim.Native.Nat.{ℕ, zero, suc, _+_, _*_, _≤_, _<_}
 use mathlib.Core.Path.{_≡_, refl, sym, ap, _∙_}
+use mathlib.Core.Bool.{Bool, true, false, cond}
 use mathlib.Core.List.{List}
 use native.Mathlib.Nat.{add-zero}
 use native.Mathlib.Omega.{arith}
@@ -37,6 +38,11 @@ only-wider from to a b o = record { long = o .long; other = λ i out. o .other i
 
 pub only-set : (l : List ℤ) (i : ℕ) (z : ℤ) → Only i (i + 1) l (set l i z)
 only-set l i z = record { long = length-set l i z; other = λ j out. getD-set-other l i j z (pos 0) (λ e. out (omega arith) (omega arith)) }
+
+-- a cell of one list or another
+pub value-cond : (b : Bool) (l m : List ℤ) (i : ℕ) → value (cond b l m) i ≡ cond b (value l i) (value m i)
+value-cond true l m i = refl
+value-cond false l m i = refl
 
 -- steps that keep to the same cells
 pub only-steps : (from to n : ℕ) (f : ℕ → List ℤ → List ℤ) (l : List ℤ) → ((i : ℕ) → i < n → (m : List ℤ) → length m ≡ length l → Only from to m (f i m)) → (i : ℕ) → i ≤ n → Only from to l (steps i f l)

@@ -86,6 +86,13 @@ clearBorder twin vert n h l = cond (border twin h) (clearVertex n (cell vert h) 
 unfoldable pub addEnds : ℕ → ℕ → ℕ → List ℤ → List ℤ
 addEnds n a b l = addPoint n b a (addPoint n a b l)
 
+abbrev pub AddsEnds : ℕ → ℕ → ℕ → List ℤ → Type 0
+AddsEnds n a b l = Adds n a b l × Adds n b a (addPoint n a b l)
+
+-- the sums are those of at most 1,024 coordinates
+abbrev pub Summed : ℕ → List ℤ → Type 0
+Summed n l = (v k : ℕ) → v < n → k < 3 → natAbs (value l (3 * n + 3 * v + k)) ≤ most-coordinate * most-corners
+
 -- 4: the ends of a border halfedge h
 unfoldable pub addBorder : List ℕ → List ℕ → ℕ → ℕ → List ℤ → List ℤ
 addBorder twin vert n h l = cond (border twin h) (addEnds n (cell vert h) (far vert h) l) l

@@ -1,4 +1,5 @@
 // The points of the levels, by document 01's point rules.
+mod border;
 mod cells;
 pub mod rules;
 mod spokes;
