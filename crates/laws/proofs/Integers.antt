@@ -3,7 +3,7 @@
 --     subℕ-pos, subℕ-neg, neg-add           a difference of two numbers, by which is more
 --     zero-of-natAbs, pos-of                a number by its size
 --     add-swap                              a sum of four
---     small-fits, back-of                   a small number fits its bits, and what a call gave is read back from them
+--     small-fits, back-of, widened          a small number fits its bits, and is read back from them
 use Prim.Native.Nat.{ℕ, zero, suc, _+_, _-_, _*_, _^_, _≤_, _<_}
 use mathlib.Core.Path.{_≡_, refl, sym, ap, _∙_}
 use native.Mathlib.Decide.{decLe}
@@ -13,8 +13,9 @@ use lib.Dec.{ltb→lt}
 use lib.IntN.{ℤ, pos, negsuc, negℤ, natAbs, subℕ, _+ℤ_, _*ℤ_, +ℤ-assoc, +ℤ-comm}
 use lib.Signed.{mag, _<ℤ_}
 use borrow.Author.Tests.{lt-ltb, le-ltb}
-use mir.Syntax.{Width}
+use mir.Syntax.{Width, w32, w64}
 use mir.Val.{SFits, toZ, ofZ, hbits}
+use mir.Facts.{sfits-widen}
 use mir.ValLaws.{toZ-ofZ}
 
 pub subℕ-pos : (a b : ℕ) → b ≤ a → subℕ a b ≡ pos (a - b)
@@ -77,3 +78,7 @@ small-fits w z l = record { sfits = lt-of-le-of-lt (mag-at-most z) l }
 -- `back-of w _ (c .call .ok)`
 pub back-of : (w : Width) (z : ℤ) → mag z < 2 ^ hbits w → toZ w (ofZ w z) ≡ z
 back-of w z l = toZ-ofZ w z (record { sfits = l })
+
+-- an i32 as an i64
+pub widened : {z : ℤ} → SFits w32 z → toZ w64 (ofZ w64 (toZ w32 (ofZ w32 z))) ≡ z
+widened {z} f = ap (λ x. toZ w64 (ofZ w64 x)) (toZ-ofZ w32 z f) ∙ toZ-ofZ w64 z (sfits-widen tt f)

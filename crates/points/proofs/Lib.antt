@@ -7,3 +7,4 @@ pub mod Added
 pub mod Gathered
 pub mod Cleared
 pub mod Joined
+pub mod Settled

@@ -101,9 +101,20 @@ addBorder twin vert n h l = cond (border twin h) (addEnds n (cell vert h) (far v
 unfoldable pub settled : ℤ → ℤ → ℤ → ℤ
 settled count x sum = cond (eqb (natAbs count) 0) (V2 x sum) (V3 (natAbs count) x sum)
 
+-- what the rules ask of them
+pub record Settles (count x sum : ℤ) : Type 0 where
+  pub whole : count ≡ pos (natAbs count)
+  pub few : natAbs count ≤ most-corners
+  pub place : natAbs x ≤ most-coordinate
+  pub at-border : natAbs count ≡ 0 → natAbs sum ≤ most-coordinate * 2
+  pub inside : natAbs count ≢ 0 → natAbs sum ≤ most-coordinate * natAbs count
+
 -- 5: vertex v
 unfoldable pub settle : ℕ → ℕ → List ℤ → List ℤ
 settle n v l = put (3 * n + 3 * v) (λ k. settled (value l (6 * n + v)) (coordinate l k v) (value l (3 * n + 3 * v + k))) l
+
+abbrev pub SettlesAt : ℕ → ℕ → List ℤ → Type 0
+SettlesAt n v l = (k : ℕ) → k < 3 → Settles (value l (6 * n + v)) (coordinate l k v) (value l (3 * n + 3 * v + k))
 
 -- h has no twin or a twin with a higher number: it is the lowest that carries its edge
 abbrev pub lowest-carrier : List ℕ → ℕ → Bool

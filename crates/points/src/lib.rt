@@ -3,3 +3,4 @@ mod border;
 mod cells;
 pub mod rules;
 mod spokes;
+mod vertices;
