@@ -6,3 +6,4 @@ pub mod Steps
 pub mod Select
 pub mod Splices
 pub mod Cases
+pub mod Lowest

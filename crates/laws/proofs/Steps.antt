@@ -1,4 +1,5 @@
--- Laws of steps taken one after the other: `steps-none`, `steps-more`, `steps-on`, `steps-three`, and induction, `steps-keep`. Assumes nothing.
+-- Laws of steps taken one after the other: `steps-none`, `steps-more`, `steps-on`, `steps-three`, `steps-three-on`,
+-- and induction, `steps-keep`. Assumes nothing.
 use Prim.Native.Nat.{ℕ, zero, suc, _+_, _*_, _≤_, _<_}
 use mathlib.Core.Path.{_≡_, refl, sym, ap, _∙_}
 use native.Mathlib.Numerals.{add-one}
@@ -26,6 +27,9 @@ module _ {A : Type 0} (f : ℕ → A → A) (x : A) where
       let d : 3 * n + 2 ≡ 3 * n + 1 + 1 = omega arith in
       ap (λ m. steps m f x) e ∙ steps-more (3 * n + 2)
       ∙ ap (f (3 * n + 2)) (ap (λ m. steps m f x) d ∙ steps-more (3 * n + 1) ∙ ap (f (3 * n + 1)) (steps-more (3 * n)))
+
+  pub steps-three-on : (n : ℕ) {y z : A} → y ≡ steps (3 * n) f x → z ≡ f (3 * n + 2) (f (3 * n + 1) (f (3 * n) y)) → z ≡ steps (3 * (n + 1)) f x
+  steps-three-on n e d = d ∙ ap (λ q. f (3 * n + 2) (f (3 * n + 1) (f (3 * n) q))) e ∙ sym (steps-three n)
 
   -- what each step keeps holds after all of them
   pub steps-keep : (P : ℕ → A → Type 0) (n : ℕ) → P 0 x → ((i : ℕ) → i < n → (y : A) → P i y → P (suc i) (f i y)) → (i : ℕ) → i ≤ n → P i (steps i f x)

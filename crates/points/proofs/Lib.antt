@@ -8,3 +8,6 @@ pub mod Gathered
 pub mod Cleared
 pub mod Joined
 pub mod Settled
+pub mod Carriers
+pub mod Writes
+pub mod Written

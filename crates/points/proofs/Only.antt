@@ -6,8 +6,8 @@ use mathlib.Core.List.{List}
 use native.Mathlib.Nat.{add-zero}
 use native.Mathlib.Omega.{arith}
 use lib.IntN.{ℤ, pos}
-use lib.ListN.{length, set, length-set}
-use lib.Seq.{getD-set-same, getD-set-other}
+use lib.ListN.{length, take, set, length-set}
+use lib.Seq.{getD-set-same, getD-set-other, getD-take, length-take-le, ext-getD}
 use Rattle.laws.specs.Steps.{steps}
 use Rattle.laws.proofs.Steps.{steps-keep}
 use Rattle.points.specs.Passes.{value, put}
@@ -38,6 +38,12 @@ only-wider from to a b o = record { long = o .long; other = λ i out. o .other i
 
 pub only-set : (l : List ℤ) (i : ℕ) (z : ℤ) → Only i (i + 1) l (set l i z)
 only-set l i z = record { long = length-set l i z; other = λ j out. getD-set-other l i j z (pos 0) (λ e. out (omega arith) (omega arith)) }
+
+pub only-take : {from to : ℕ} {l m : List ℤ} (k : ℕ) → k ≤ from → k ≤ length l → Only from to l m → take k m ≡ take k l
+only-take {l = l} {m = m} k a b o =
+    let e : length (take k m) ≡ k = length-take-le k m (rw (o .long) b) in
+    ext-getD (pos 0) (take k m) (take k l) (e ∙ sym (length-take-le k l b))
+    (λ i c. getD-take k m i (pos 0) (rw e at c) ∙ o .other i (λ p q. omega (arith, rw e at c)) ∙ sym (getD-take k l i (pos 0) (rw e at c)))
 
 -- a cell of one list or another
 pub value-cond : (b : Bool) (l m : List ℤ) (i : ℕ) → value (cond b l m) i ≡ cond b (value l i) (value m i)

@@ -9,11 +9,11 @@ use mathlib.Core.Logic.{_≢_}
 use lib.Dec.{eqb, ltb}
 use lib.IntN.{ℤ, pos, natAbs, _+ℤ_}
 use lib.ListN.{length, getD, take, set}
-use Rattle.halfedges.specs.Cage.{cell, border}
-use Rattle.points.specs.PointRules.{V2, V3}
+use Rattle.halfedges.specs.Cage.{marker, cell, border}
+use Rattle.points.specs.PointRules.{E1, E2, V2, V3}
 use Rattle.points.specs.NextPoints.{coordinate, far, edgePoint}
 use Rattle.points.specs.Operations.{most-coordinate}
-use Rattle.points.specs.Relied.{most-corners, InRange}
+use Rattle.points.specs.Relied.{most-corners, Cornered, InRange}
 
 -- what cell i holds
 abbrev pub value : List ℤ → ℕ → ℤ
@@ -120,6 +120,31 @@ SettlesAt n v l = (k : ℕ) → k < 3 → Settles (value l (6 * n + v)) (coordin
 abbrev pub lowest-carrier : List ℕ → ℕ → Bool
 lowest-carrier twin h = border twin h || ltb h (cell twin h)
 
+-- the tables name halfedges, vertices in range, and edges that there is room for
+pub record Edged (twin vert edge : List ℕ) (n : ℕ) (l : List ℤ) : Type 0 where
+  pub cornered : Cornered vert n
+  pub twin-long : length twin ≡ length vert
+  pub edge-long : length edge ≡ length vert
+  pub twin-below : (h : ℕ) → h < length vert → cell twin h ≢ marker → cell twin h < length vert
+  pub room : (h : ℕ) → h < length vert → 6 * n + 3 * cell edge h + 2 < length l
+  pub in-range : InRange (take (3 * n) l)
+
+-- the point of vertex v can be read
+pub record Near (l : List ℤ) (v : ℕ) : Type 0 where
+  pub inside : 3 * v + 2 < length l
+  pub small : (k : ℕ) → k < 3 → natAbs (coordinate l k v) ≤ most-coordinate
+
+-- the points of a border edge with ends a, b, and of an inner edge with ends a, b and opposite corners c, d
+abbrev pub borderPoint : List ℤ → ℕ → ℕ → ℕ → ℤ
+borderPoint l a b k = E1 (coordinate l k a) (coordinate l k b)
+
+abbrev pub innerPoint : List ℤ → ℕ → ℕ → ℕ → ℕ → ℕ → ℤ
+innerPoint l a b c d k = E2 (coordinate l k a) (coordinate l k b) (coordinate l k c) (coordinate l k d)
+
 -- 6: the point of h's edge, from the lowest halfedge that carries it
 unfoldable pub putEdge : List ℕ → List ℕ → List ℕ → ℕ → ℕ → List ℤ → List ℤ
 putEdge twin vert edge n h l = cond (lowest-carrier twin h) (put (6 * n + 3 * cell edge h) (edgePoint twin vert l h) l) l
+
+-- of a triangle's three halfedges
+unfoldable pub putTriangle : List ℕ → List ℕ → List ℕ → ℕ → ℕ → List ℤ → List ℤ
+putTriangle twin vert edge n t l = putEdge twin vert edge n (3 * t + 2) (putEdge twin vert edge n (3 * t + 1) (putEdge twin vert edge n (3 * t) l))

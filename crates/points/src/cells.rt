@@ -1,8 +1,9 @@
 // Cells of the lent points.
 ghost use mathlib.Core.Path.{_≡_};
-ghost use Prim.Native.Nat.{_+_, _<_};
+ghost use Prim.Native.Nat.{_+_, _*_, _<_};
 ghost use lib.IntN.{natAbs, _+ℤ_};
 ghost use lib.ListN.{length};
+ghost use Rattle.points.specs.NextPoints.{coordinate as NextPoints·coordinate};
 ghost use Rattle.points.specs.Passes.{value, put, xyz};
 
 // Coordinates x, y, z are stored from a cell on.
@@ -23,4 +24,13 @@ pub fn sum_of(points: &[i32], a: usize, b: usize, k: usize) -> i32
     let x = points[a + k];
     let y = points[b + k];
     x + y
+}
+
+// Coordinate k of a vertex.
+pub fn coordinate(points: &[i32], vertex: usize, k: usize) -> i64
+    requires { ⌜ 3 * vertex + k < length (now points) ⌝ }
+    ensures { λ r. ⌜ r ≡ NextPoints·coordinate (now (points .entry)) k vertex ⌝ }
+{
+    let x = points[3 * vertex + k];
+    x as i64
 }

@@ -1,6 +1,7 @@
 // The points of the levels, by document 01's point rules.
 mod border;
 mod cells;
+mod edges;
 pub mod rules;
 mod spokes;
 mod vertices;
