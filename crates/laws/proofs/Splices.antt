@@ -1,12 +1,14 @@
 -- Laws of lists laid end to end, and of cells in the middle of a list. Assumes nothing.
---     splice-ext     a list is another one with x at a place, cell by cell
+--     splice-ext                   a list is another one with x at a place, cell by cell
+--     rest-whole, rest-none        all that comes from a place on, and nothing after it
 use Prim.Native.Nat.{ℕ, zero, suc, _+_, _-_, _≤_, _<_}
 use mathlib.Core.Path.{_≡_, refl, sym, ap, _∙_}
-use mathlib.Core.List.{List, _++_}
+use mathlib.Core.List.{List, [], _++_}
 use native.Mathlib.Decide.{decLt}
+use native.Mathlib.Nat.{le-refl}
 use native.Mathlib.Omega.{arith}
-use lib.ListN.{length, getD, take, drop, length-append, length-drop, List·getD-append}
-use lib.Seq.{ext-getD, length-take-le, getD-take, getD-drop, getD-append-add}
+use lib.ListN.{length, getD, take, drop, length-append, length-drop, List·getD-append, drop-of-length-le}
+use lib.Seq.{ext-getD, take-all, length-take-le, getD-take, getD-drop, getD-append-add}
 
 module _ {A : Type 0} (z : A) (l m x : List A) (at : ℕ) where
   pub splice-ext :
@@ -45,3 +47,11 @@ module _ {A : Type 0} (z : A) (l m x : List A) (at : ℕ) where
         where
           subst-at : {j : ℕ} → j ≡ i → getD m j z ≡ getD (take at l ++ (x ++ rest)) j z → getD m i z ≡ getD (take at l ++ (x ++ rest)) i z
           subst-at e h = rw e at h
+
+-- what comes from a place on is all that is left
+module _ {A : Type 0} (l : List A) (at : ℕ) where
+  pub rest-whole : take (length l - at) (drop at l) ≡ drop at l
+  rest-whole = take-all (length l - at) (drop at l) (simp length-drop (le-refl _))
+
+  pub rest-none : drop (length l - at) (drop at l) ≡ []
+  rest-none = drop-of-length-le (drop at l) {i = length l - at} (simp length-drop (le-refl _))

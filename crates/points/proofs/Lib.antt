@@ -11,3 +11,5 @@ pub mod Settled
 pub mod Carriers
 pub mod Writes
 pub mod Written
+pub mod Passed
+pub mod Lent

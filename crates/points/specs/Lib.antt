@@ -3,3 +3,4 @@ pub mod NextPoints
 pub mod Operations
 pub mod Relied
 pub mod Passes
+pub mod Levels

@@ -2,6 +2,7 @@
 mod border;
 mod cells;
 mod edges;
+pub mod level;
 pub mod rules;
 mod spokes;
 mod vertices;
