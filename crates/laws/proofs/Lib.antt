@@ -7,3 +7,4 @@ pub mod Select
 pub mod Splices
 pub mod Cases
 pub mod Lowest
+pub mod EndToEnd

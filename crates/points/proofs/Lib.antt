@@ -13,3 +13,4 @@ pub mod Writes
 pub mod Written
 pub mod Passed
 pub mod Lent
+pub mod Climbed

@@ -3,6 +3,7 @@ mod border;
 mod cells;
 mod edges;
 pub mod level;
+pub mod levels;
 pub mod rules;
 mod spokes;
 mod vertices;
