@@ -11,3 +11,8 @@ pub mod Turnings
 pub mod Pigeonhole
 pub mod Least
 pub mod Subsets
+pub mod Integers
+pub mod Steps
+pub mod Select
+pub mod Splices
+pub mod Cases

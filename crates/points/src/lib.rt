@@ -1,1 +1,9 @@
-// The points of every level, the whole cage check and refining. Definitions in specs/; the code comes to them.
+// The points of the levels, by document 01's point rules.
+mod border;
+mod cells;
+mod edges;
+pub mod level;
+pub mod levels;
+pub mod rules;
+mod spokes;
+mod vertices;

@@ -1,0 +1,38 @@
+-- Laws of steps taken one after the other: `steps-none`, `steps-more`, `steps-on`, `steps-three`, `steps-three-on`,
+-- and induction, `steps-keep`. Assumes nothing.
+use Prim.Native.Nat.{ℕ, zero, suc, _+_, _*_, _≤_, _<_}
+use mathlib.Core.Path.{_≡_, refl, sym, ap, _∙_}
+use native.Mathlib.Numerals.{add-one}
+use native.Mathlib.Omega.{arith}
+use Rattle.laws.specs.Steps.{steps}
+
+module _ {A : Type 0} (f : ℕ → A → A) (x : A) where
+  pub steps-none : steps 0 f x ≡ x
+  unfolding steps
+  steps-none = refl
+
+  pub steps-more : (n : ℕ) → steps (n + 1) f x ≡ f n (steps n f x)
+  unfolding steps
+  steps-more n = rw add-one
+
+  -- a loop's turn
+  pub steps-on : (n : ℕ) {y z : A} → y ≡ steps n f x → z ≡ f n y → z ≡ steps (n + 1) f x
+  steps-on n e d = d ∙ ap (f n) e ∙ sym (steps-more n)
+
+  -- three at once, as of a triangle's three halfedges
+  pub steps-three : (n : ℕ) → steps (3 * (n + 1)) f x ≡ f (3 * n + 2) (f (3 * n + 1) (f (3 * n) (steps (3 * n) f x)))
+  unfolding steps
+  steps-three n =
+      let e : 3 * (n + 1) ≡ 3 * n + 2 + 1 = omega arith in
+      let d : 3 * n + 2 ≡ 3 * n + 1 + 1 = omega arith in
+      ap (λ m. steps m f x) e ∙ steps-more (3 * n + 2)
+      ∙ ap (f (3 * n + 2)) (ap (λ m. steps m f x) d ∙ steps-more (3 * n + 1) ∙ ap (f (3 * n + 1)) (steps-more (3 * n)))
+
+  pub steps-three-on : (n : ℕ) {y z : A} → y ≡ steps (3 * n) f x → z ≡ f (3 * n + 2) (f (3 * n + 1) (f (3 * n) y)) → z ≡ steps (3 * (n + 1)) f x
+  steps-three-on n e d = d ∙ ap (λ q. f (3 * n + 2) (f (3 * n + 1) (f (3 * n) q))) e ∙ sym (steps-three n)
+
+  -- what each step keeps holds after all of them
+  pub steps-keep : (P : ℕ → A → Type 0) (n : ℕ) → P 0 x → ((i : ℕ) → i < n → (y : A) → P i y → P (suc i) (f i y)) → (i : ℕ) → i ≤ n → P i (steps i f x)
+  unfolding steps
+  steps-keep P n start step zero l = start
+  steps-keep P n start step (suc i) l = step i l (steps i f x) (steps-keep P n start step i (omega arith))

@@ -1,0 +1,27 @@
+-- A level's part of the table, lent: the part asks what the whole does (`ready-part`), and put back it is the whole with the
+-- next level (`part-back`). Assumes nothing.
+use Prim.Native.Nat.{ℕ, _+_, _-_, _*_}
+use mathlib.Core.Path.{_≡_, sym, ap, _∙_}
+use mathlib.Core.List.{List, _++_, append-assoc, append-nil}
+use native.Mathlib.Nat.{zero-add, add-assoc}
+use native.Mathlib.Omega.{arith}
+use lib.IntN.{ℤ}
+use lib.ListN.{length, take, drop, length-drop}
+use lib.Seq.{take-add, drop-drop}
+use borrow.Rule.Slice.PartMut.{putMid, midOf}
+use Rattle.laws.proofs.Splices.{rest-whole, rest-none}
+use Rattle.halfedges.specs.declared.table.HalfedgeTable.{HalfedgeTable}
+use Rattle.connectivity.specs.Tables.{Tables}
+use Rattle.points.specs.NextPoints.{nextPoints}
+use Rattle.points.specs.Levels.{pointsAt, nextEnd, withNext, Ready}
+
+module _ (t : HalfedgeTable) (c : Tables) (at : ℕ) (points : List ℤ) where
+  pub ready-part : Ready t c at points → Ready t c 0 (midOf at (length points - at) points)
+  ready-part ready =
+      rw (rest-whole points at)
+      (record { relied = ready .relied; short = ready .short; in-range = ready .in-range; room = rw (length-drop at points) (omega (arith, ready .room)) })
+
+  pub part-back : putMid at (length points - at) points (withNext t c 0 (midOf at (length points - at) points)) ≡ withNext t c at points
+  unfolding withNext
+  part-back =
+      rw (rest-whole points at, rest-none points at, append-nil, zero-add (3 * t .vertices), drop-drop, take-add at (3 * t .vertices) points, append-assoc, add-assoc at (3 * t .vertices))

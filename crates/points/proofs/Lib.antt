@@ -1,0 +1,16 @@
+pub mod Numerators
+pub mod Triangles
+pub mod Ends
+pub mod Only
+pub mod Range
+pub mod Added
+pub mod Gathered
+pub mod Cleared
+pub mod Joined
+pub mod Settled
+pub mod Carriers
+pub mod Writes
+pub mod Written
+pub mod Passed
+pub mod Lent
+pub mod Climbed

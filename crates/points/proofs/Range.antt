@@ -1,0 +1,75 @@
+-- Rule 8 holds at every level: from a level's points in range the next level's are (`next-in-range`), and so are those of
+-- every depth (`levels-in-range`). Assumes nothing.
+use Prim.Native.Nat.{ℕ, zero, suc, _+_, _*_, _/_, _%_, _≤_, _<_}
+use mathlib.Core.Path.{_≡_}
+use mathlib.Core.List.{List, map}
+use native.Mathlib.Decide.{decLt}
+use native.Mathlib.Omega.{arith}
+use lib.Dec.{eqb, ltb}
+use lib.IntN.{ℤ, pos, natAbs}
+use lib.ListN.{length, getD, List·getD-eq-default}
+use borrow.Author.Tests.{ltb-true}
+use Rattle.laws.proofs.Cases.{cond-keeps}
+use Rattle.laws.proofs.Tabulate.{length-tabulate, getD-tabulate}
+use Rattle.halfedges.specs.declared.table.HalfedgeTable.{HalfedgeTable}
+use Rattle.halfedges.specs.Cage.{border}
+use Rattle.halfedges.specs.Counts.{countsAt}
+use Rattle.connectivity.specs.Tables.{Tables}
+use Rattle.connectivity.specs.NextLevel.{level}
+use Rattle.points.specs.NextPoints.{coordinate, total, corners, spokeEnds, creaseEnds, vertexPoint, edgePoint, newPoint, nextPoints, levelPoints}
+use Rattle.points.specs.Operations.{most-coordinate}
+use Rattle.points.specs.Relied.{Relied, InRange}
+use Rattle.points.proofs.Numerators.{E1-at-most, E2-at-most, V2-at-most, V3-at-most}
+use Rattle.points.proofs.Ends.{corners-counted, spokes-are, spokes-at-most, creases-are, creases-at-most}
+
+-- what lies past the end is 0
+pub any-in-range : (points : List ℤ) → InRange points → (i : ℕ) → natAbs (getD points i (pos 0)) ≤ most-coordinate
+any-in-range points range i = by (decLt i (length points))
+  where
+    by : Dec (i < length points) → natAbs (getD points i (pos 0)) ≤ most-coordinate
+    by (yes l) = range i l
+    by (no l) = rw (List·getD-eq-default points (pos 0) {n = i} (omega (arith, l))) (omega arith)
+
+module _ (t : HalfedgeTable) (c : Tables) (relied : Relied t c) (points : List ℤ) (range : InRange points) (k : ℕ) where
+  at-vertex : (v : ℕ) → natAbs (coordinate points k v) ≤ most-coordinate
+  at-vertex v = any-in-range points range _
+
+  spokes-small : (v : ℕ) → natAbs (total (map (coordinate points k) (spokeEnds (c .vert) v))) ≤ most-coordinate * length (corners (c .vert) v)
+  spokes-small v = rw (spokes-are (c .vert) v points k, corners-counted (c .vert) v) (spokes-at-most (c .vert) v points k most-coordinate at-vertex (length (c .vert)))
+
+  creases-small : (v : ℕ) → v < t .vertices → natAbs (total (map (coordinate points k) (creaseEnds (c .twin) (c .vert) v))) ≤ most-coordinate * 2
+  creases-small v l =
+      rw (creases-are (c .twin) (c .vert) v points k)
+      (omega (arith, creases-at-most (c .twin) (c .vert) v points k most-coordinate at-vertex (length (c .vert)), relied .bordered .one v l, relied .bordered .pair v l))
+
+  vertex-in-range : (v : ℕ) → v < t .vertices → natAbs (vertexPoint (c .twin) (c .vert) points v k) ≤ most-coordinate
+  unfolding vertexPoint
+  vertex-in-range v l =
+      cond-keeps (λ z. natAbs z ≤ most-coordinate) (eqb (length (creaseEnds (c .twin) (c .vert) v)) 0)
+      (λ _. V3-at-most most-coordinate _ _ _ (relied .cornered .some v l) (at-vertex v) (spokes-small v))
+      (λ _. V2-at-most most-coordinate _ _ (at-vertex v) (creases-small v l))
+
+  edge-in-range : (h : ℕ) → natAbs (edgePoint (c .twin) (c .vert) points h k) ≤ most-coordinate
+  unfolding edgePoint
+  edge-in-range h =
+      cond-keeps (λ z. natAbs z ≤ most-coordinate) (border (c .twin) h)
+      (λ _. E1-at-most most-coordinate _ _ (at-vertex _) (at-vertex _))
+      (λ _. E2-at-most most-coordinate _ _ _ _ (at-vertex _) (at-vertex _) (at-vertex _) (at-vertex _))
+
+  new-in-range : (u : ℕ) → natAbs (newPoint t c points u k) ≤ most-coordinate
+  unfolding newPoint
+  new-in-range u =
+      cond-keeps (λ z. natAbs z ≤ most-coordinate) (ltb u (t .vertices))
+      (λ e. vertex-in-range u (ltb-true u (t .vertices) e))
+      (λ _. edge-in-range _)
+
+pub next-in-range : (t : HalfedgeTable) (c : Tables) → Relied t c → (points : List ℤ) → InRange points → InRange (nextPoints t c points)
+unfolding nextPoints
+next-in-range t c relied points range i l =
+    let b : i < 3 * (t .vertices + t .edges) = rw (length-tabulate (3 * (t .vertices + t .edges)) (λ j. newPoint t c points (j / 3) (j % 3))) at l in
+    rw (getD-tabulate (3 * (t .vertices + t .edges)) (λ j. newPoint t c points (j / 3) (j % 3)) i (pos 0) b) (new-in-range t c relied points range (i % 3) (i / 3))
+
+pub levels-in-range : (t : HalfedgeTable) (c : Tables) (points : List ℤ) (depth : ℕ) → ((d : ℕ) → d < depth → Relied (countsAt t d) (level t c d)) → InRange points → (d : ℕ) → d ≤ depth → InRange (levelPoints t c points d)
+unfolding levelPoints
+levels-in-range t c points depth relied range zero l = range
+levels-in-range t c points depth relied range (suc d) l = next-in-range (countsAt t d) (level t c d) (relied d l) (levelPoints t c points d) (levels-in-range t c points depth relied range d (omega arith))

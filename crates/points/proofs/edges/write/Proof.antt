@@ -1,0 +1,68 @@
+-- `write` takes three steps of its definition a turn, of a triangle's halfedges.
+use Prim.Native.Nat.{_+_, _-_, _*_, _≤_, _<_}
+use mathlib.Core.Path.{_≡_, refl, sym, ap, _∙_, subst}
+use native.Mathlib.Omega.{arith}
+use lib.ListN.{length}
+use borrow.Author.Needs.{needs}
+use Rattle.laws.specs.Steps.{steps}
+use Rattle.laws.proofs.Steps.{steps-none, steps-three-on}
+use Rattle.points.specs.Passes.{Edged, putEdge, putTriangle}
+use Rattle.points.proofs.Writes.{edged-steps}
+use Rattle.points.proofs.edges.write.Statement.{statement}
+use Rattle.points.proofs.edges.write.Tie as tie
+
+abbrev Inv-loop : tie.InvT-loop
+Inv-loop twin vert edge points₀ vertices triangles triangle₀ points triangle = (triangle ≤ triangles) × (length points ≡ length points₀) × (points ≡ steps (3 * triangle) (putEdge twin vert edge vertices) points₀)
+
+abbrev μ-loop : tie.MeasureT-loop
+μ-loop twin vert edge points₀ vertices triangles triangle₀ points triangle = triangles - triangle
+
+loop-holds : tie.Need-loop-holds Inv-loop μ-loop
+loop-holds c = (omega arith, refl, sym (steps-none _ _))
+
+write-triangle-requires : tie.Need-write-triangle-requires Inv-loop μ-loop
+write-triangle-requires c κs =
+    let b = c .before .before in
+    let s = b .before .before .before .before in
+    let whole = s .pre .cornered .whole in (
+      subst (Edged (s .args .twin .now) (s .args .vert .now) (s .args .edge .now) (s .args .vertices)) (sym (b .loop .inv .2)) (edged-steps _ _ _ _ (s .args .points .now) (s .pre) (3 * b .loop .triangle) (omega arith)),
+      omega arith,
+    )
+
+add-triangle : tie.Need-add-triangle Inv-loop μ-loop
+add-triangle c = search needs
+
+loop-less : tie.Need-loop-less Inv-loop μ-loop
+loop-less c = search needs
+
+loop-again : tie.Need-loop-again Inv-loop μ-loop
+unfolding putTriangle
+loop-again c =
+    let b = c .before .before .before .before in
+    let s = b .before .before .before .before in
+    (omega arith, search needs, steps-three-on (putEdge (s .args .twin .now) (s .args .vert .now) (s .args .edge .now) (s .args .vertices)) (s .args .points .now) (b .loop .triangle) (b .loop .inv .2) (c .before .write-triangle .ensures))
+
+same-length : tie.Need-same-length Inv-loop μ-loop
+same-length c = search needs
+
+returns : tie.Need-returns Inv-loop μ-loop
+returns c =
+    let b = c .before in
+    let s = b .before .before .before .before in
+    let whole = s .pre .cornered .whole in
+    let e : 3 * b .loop .triangle ≡ length (s .args .vert .now) = omega arith in
+    b .loop .inv .2 ∙ ap (λ i. steps i (putEdge (s .args .twin .now) (s .args .vert .now) (s .args .edge .now) (s .args .vertices)) (s .args .points .now)) e
+
+pub write-spec : {M : Type 1} → statement M
+write-spec =
+    tie.close
+    (tie.spec
+    Inv-loop
+    μ-loop
+    loop-holds
+    write-triangle-requires
+    add-triangle
+    loop-less
+    loop-again
+    same-length
+    returns)

@@ -1,0 +1,40 @@
+// The points of one level from those of the level before: the six passes.
+ghost use mathlib.Core.Path.{_≡_};
+ghost use Rattle.connectivity.specs.Tables.{tables};
+ghost use Rattle.points.specs.Levels.{Ready, withNext};
+use crate::border::add_border;
+use crate::border::clear_border;
+use crate::edges::write;
+use crate::spokes::clear;
+use crate::spokes::gather;
+use crate::vertices::settle;
+use halfedges::table::HalfedgeTable;
+
+// The next level's points, in a table that starts with the level's own.
+fn next_points(table: HalfedgeTable, twin: &[u32], vert: &[u32], edge: &[u32], points: &mut [i32])
+    requires { ⌜ Ready table (tables (now twin) (now vert) (now edge)) 0 (now points) ⌝ }
+    ensures { λ _. ⌜ now (points .exit) ≡ withNext table (tables (now (twin .entry)) (now (vert .entry)) (now (edge .entry))) 0 (now (points .entry)) ⌝ }
+{
+    let vertices = table.vertices;
+    clear(&mut *points, vertices);
+    gather(vert, &mut *points, vertices);
+    clear_border(twin, vert, &mut *points, vertices);
+    add_border(twin, vert, &mut *points, vertices);
+    settle(&mut *points, vertices);
+    write(twin, vert, edge, &mut *points, vertices);
+}
+
+// The next level's points, in a table where the level's own start at a cell.
+pub fn next_level(
+    table: HalfedgeTable,
+    twin: &[u32],
+    vert: &[u32],
+    edge: &[u32],
+    points: &mut [i32],
+    at: usize,
+)
+    requires { ⌜ Ready table (tables (now twin) (now vert) (now edge)) at (now points) ⌝ }
+    ensures { λ _. ⌜ now (points .exit) ≡ withNext table (tables (now (twin .entry)) (now (vert .entry)) (now (edge .entry))) at (now (points .entry)) ⌝ }
+{
+    next_points(table, twin, vert, edge, &mut points[at..]);
+}
