@@ -108,7 +108,7 @@ module _ (c : Tables) (v : ℕ) (s : Shaped c) (r : Ruled c v) where
 -- ---- accepted cages
 
 -- within the limits no halfedge number reaches the marker
-within-limits : (n d : ℕ) → n ≤ most-halfedges → d ≤ most-depth → 4 ^ d * n ≤ marker
+pub within-limits : (n d : ℕ) → n ≤ most-halfedges → d ≤ most-depth → 4 ^ d * n ≤ marker
 within-limits n d a b = let g : 4 ^ d * n ≤ 4 ^ 6 * 3072 = mul-le-mul (pow-le-pow-right (let z : 0 < 4 = omega arith in z) b) a in omega arith
 
 pub accepted : (c : Tables) (v depth : ℕ) → first (tableChecks c v depth) ≡ DONE → (d : ℕ) → d ≤ most-depth → Invariant (countsOf c v) c d

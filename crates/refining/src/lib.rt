@@ -1,0 +1,1 @@
+// The cage check and refining, with points.
