@@ -1,3 +1,5 @@
 pub mod Tests
 pub mod Tabulate
 pub mod Sums
+pub mod Chunks
+pub mod Splice
