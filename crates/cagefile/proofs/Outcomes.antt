@@ -1,0 +1,59 @@
+-- What reading and writing leave where they are done and where they refuse. Assumes nothing.
+--     read-done, read-refused                                   each outcome of reading
+--     write-done                                                writing that is done
+--     twins-length, verts-length, edges-length, points-length   how many cells are read
+use Prim.Native.Nat.{ℕ, _*_}
+use mathlib.Core.Path.{_≡_}
+use mathlib.Core.Logic.{_≢_}
+use mathlib.Core.List.{List, [], _∷_}
+use lib.IntN.{ℤ}
+use lib.ListN.{length}
+use borrow.Author.Tests.{ne-eqb}
+use Rattle.laws.specs.Splice.{over}
+use Rattle.laws.proofs.Tabulate.{length-tabulate}
+use Rattle.halfedges.specs.Refusals.{DONE, said, filled}
+use Rattle.connectivity.specs.Tables.{Tables, tables}
+use Rattle.connectivity.specs.Operations.{filledTables}
+use Rattle.cagefile.specs.Fields.{file}
+use Rattle.cagefile.specs.Reading.{HIn, VIn, readVerdict, twinsIn, vertsIn, edgesIn, pointsIn, Read, readFile}
+use Rattle.cagefile.specs.Writing.{writeVerdict, writeFile}
+
+-- what reading leaves where it is done, with what the lent tables held
+abbrev pub allRead : List ℕ → Tables → List ℤ → Read
+allRead f lent lentPoints =
+    record {
+      answer = record { verdict = DONE; values = HIn f ∷ VIn f ∷ [] };
+      lent = tables (over (twinsIn f) (lent .twin)) (over (vertsIn f) (lent .vert)) (over (edgesIn f) (lent .edge));
+      points = over (pointsIn f) lentPoints;
+    }
+
+module _ (f : List ℕ) (lent : Tables) (lentPoints : List ℤ) where
+  pub read-done : readVerdict f lent lentPoints ≡ DONE → readFile f lent lentPoints ≡ allRead f lent lentPoints
+  unfolding readFile said filledTables filled
+  read-done e = rw e
+
+  pub read-refused : readVerdict f lent lentPoints .number ≢ 0 → readFile f lent lentPoints ≡ record { answer = record { verdict = readVerdict f lent lentPoints; values = 0 ∷ 0 ∷ [] }; lent = lent; points = lentPoints }
+  unfolding readFile said filledTables filled
+  read-refused n = rw (ne-eqb _ _ n)
+
+-- what writing leaves where it is done
+pub write-done : (c : Tables) (points : List ℤ) (lent : List ℕ) → writeVerdict c points lent ≡ DONE → writeFile c points lent ≡ record { answer = record { verdict = DONE; values = length (file c points) }; file = over (file c points) lent }
+unfolding writeFile said filled
+write-done c points lent e = rw e
+
+module _ (f : List ℕ) where
+  pub twins-length : length (twinsIn f) ≡ HIn f
+  unfolding twinsIn
+  twins-length = length-tabulate (HIn f) _
+
+  pub verts-length : length (vertsIn f) ≡ HIn f
+  unfolding vertsIn
+  verts-length = length-tabulate (HIn f) _
+
+  pub edges-length : length (edgesIn f) ≡ HIn f
+  unfolding edgesIn
+  edges-length = length-tabulate (HIn f) _
+
+  pub points-length : length (pointsIn f) ≡ 3 * VIn f
+  unfolding pointsIn
+  points-length = length-tabulate (3 * VIn f) _
