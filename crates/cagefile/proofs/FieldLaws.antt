@@ -17,7 +17,7 @@ use Rattle.halfedges.specs.Refusals.{DONE, given, first}
 use Rattle.halfedges.proofs.Checks.{first-more, done-both, done-passes}
 use Rattle.cagefile.specs.Fields.{u16, Head, field, fields}
 use Rattle.cagefile.specs.Reading.{u16At, past, fieldChecks, fieldsChecks, payloadAt}
-use Rattle.cagefile.proofs.Numbers.{Bytes, u16-read, u16-put}
+use Rattle.cagefile.proofs.NumberLaws.{Bytes, u16-read, u16-put}
 
 -- heads and payloads that belong together
 pub data Sized : List Head → List (List ℕ) → Type 0 where

@@ -13,7 +13,7 @@ use Rattle.halfedges.specs.Cage.{marker, most-halfedges, most-vertices, cell}
 use Rattle.connectivity.specs.Tables.{Tables}
 use Rattle.points.specs.Operations.{vertices, most-coordinate}
 use Rattle.cagefile.specs.Fields.{u16, u32, twos, opening, heads, payloads, fields, file}
-use Rattle.cagefile.proofs.Numbers.{stored}
+use Rattle.cagefile.proofs.NumberLaws.{stored}
 use Rattle.cagefile.proofs.FieldLaws.{Sized, none, more}
 
 -- tables of equal length, and three coordinates for each vertex

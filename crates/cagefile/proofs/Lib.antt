@@ -1,5 +1,7 @@
-pub mod Numbers
+pub mod Told
+pub mod NumberLaws
 pub mod FieldLaws
+pub mod Verdict
 pub mod Outcomes
 pub mod Fits
 pub mod Accepted

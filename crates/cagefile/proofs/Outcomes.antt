@@ -1,9 +1,9 @@
 -- What reading and writing leave where they are done and where they refuse. Assumes nothing.
---     read-done, read-refused                                   each outcome of reading
+--     read-done, done-left, refused-left                        each outcome of reading
 --     write-done                                                writing that is done
 --     twins-length, verts-length, edges-length, points-length   how many cells are read
 use Prim.Native.Nat.{ℕ, _*_}
-use mathlib.Core.Path.{_≡_}
+use mathlib.Core.Path.{_≡_, refl}
 use mathlib.Core.Logic.{_≢_}
 use mathlib.Core.List.{List, [], _∷_}
 use lib.IntN.{ℤ}
@@ -11,7 +11,7 @@ use lib.ListN.{length}
 use borrow.Author.Tests.{ne-eqb}
 use Rattle.laws.specs.Splice.{over}
 use Rattle.laws.proofs.Tabulate.{length-tabulate}
-use Rattle.halfedges.specs.Refusals.{DONE, said, filled}
+use Rattle.halfedges.specs.Refusals.{Verdict, DONE, Said, said, filled}
 use Rattle.connectivity.specs.Tables.{Tables, tables}
 use Rattle.connectivity.specs.Operations.{filledTables}
 use Rattle.cagefile.specs.Fields.{file}
@@ -27,14 +27,22 @@ allRead f lent lentPoints =
       points = over (pointsIn f) lentPoints;
     }
 
+-- the promise of reading: what it answers, and what it leaves in the lent tables
+abbrev Left : Read → Said (List ℕ) → Tables → List ℤ → Type 0
+Left after answer lent points =
+    (answer ≡ after .answer) × (lent .twin ≡ after .lent .twin) × (lent .vert ≡ after .lent .vert) × (lent .edge ≡ after .lent .edge) × (points ≡ after .points)
+
 module _ (f : List ℕ) (lent : Tables) (lentPoints : List ℤ) where
   pub read-done : readVerdict f lent lentPoints ≡ DONE → readFile f lent lentPoints ≡ allRead f lent lentPoints
   unfolding readFile said filledTables filled
   read-done e = rw e
 
-  pub read-refused : readVerdict f lent lentPoints .number ≢ 0 → readFile f lent lentPoints ≡ record { answer = record { verdict = readVerdict f lent lentPoints; values = 0 ∷ 0 ∷ [] }; lent = lent; points = lentPoints }
+  pub done-left : readVerdict f lent lentPoints ≡ DONE → (h v : ℕ) → h ≡ HIn f → v ≡ VIn f → (now : Tables) (nowPoints : List ℤ) → now ≡ allRead f lent lentPoints .lent → nowPoints ≡ allRead f lent lentPoints .points → Left (readFile f lent lentPoints) (record { verdict = DONE; values = h ∷ v ∷ [] }) now nowPoints
+  done-left e h v p q now nowPoints t u = rw (read-done e, p, q, t, u) (refl, refl, refl, refl, refl)
+
+  pub refused-left : (v : Verdict) → v ≡ readVerdict f lent lentPoints → v .number ≢ 0 → Left (readFile f lent lentPoints) (record { verdict = v; values = 0 ∷ 0 ∷ [] }) lent lentPoints
   unfolding readFile said filledTables filled
-  read-refused n = rw (ne-eqb _ _ n)
+  refused-left v e n = rw (← e, ne-eqb _ _ n) (refl, refl, refl, refl, refl)
 
 -- what writing leaves where it is done
 pub write-done : (c : Tables) (points : List ℤ) (lent : List ℕ) → writeVerdict c points lent ≡ DONE → writeFile c points lent ≡ record { answer = record { verdict = DONE; values = length (file c points) }; file = over (file c points) lent }

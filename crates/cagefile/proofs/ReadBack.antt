@@ -1,5 +1,5 @@
 -- The first round trip: reading the file of a cage that fits gives that cage back (`read-back`). Assumes nothing.
-use Prim.Native.Nat.{ℕ, suc, _+_, _*_, _%_, _≤_, _<_}
+use Prim.Native.Nat.{ℕ, suc, _+_, _*_, _%_, _<_}
 use mathlib.Core.Path.{_≡_, refl, sym, ap, _∙_}
 use mathlib.Core.Logic.{_⊎_, inl, inr, ⊎-elim}
 use mathlib.Core.List.{List, [], _∷_, _++_, flatMap}
@@ -19,17 +19,11 @@ use Rattle.connectivity.specs.Operations.{shortTables}
 use Rattle.points.specs.Operations.{vertices}
 use Rattle.cagefile.specs.Fields.{u16, u32, twos, noTwin, opening, heads, payloads, fields, file}
 use Rattle.cagefile.specs.Reading.{u16At, u32At, asTwin, signed, past, fieldChecks, fieldsChecks, formIn, HIn, VIn, openingChecks, readVerdict, payloadAt, twinsIn, vertsIn, edgesIn, pointsIn, Read, readFile}
-use Rattle.cagefile.proofs.Numbers.{stored, stored-small, u16-read, u32-read, asTwin-stored, signed-twos, twos-small}
+use Rattle.cagefile.proofs.NumberLaws.{stored, stored-small, u16-read, u32-read, asTwin-stored, signed-twos, twos-small}
 use Rattle.cagefile.proofs.Outcomes.{read-done}
+use Rattle.cagefile.proofs.Verdict.{RoomFor}
 use Rattle.cagefile.proofs.FieldLaws.{Sized, fields-pass, payload-at}
 use Rattle.cagefile.proofs.Fits.{Fits, file-sized}
-
--- lent tables that have room for a cage
-pub record Room (c : Tables) (points : List ℤ) (lent : Tables) (lentPoints : List ℤ) : Type 0 where
-  pub twin : length (c .twin) ≤ length (lent .twin)
-  pub vert : length (c .vert) ≤ length (lent .vert)
-  pub edge : length (c .edge) ≤ length (lent .edge)
-  pub coordinates : length points ≤ length lentPoints
 
 -- reading that gives back a cage: H and V, and the cage in front of what the lent tables held
 abbrev pub cageRead : Tables → List ℤ → Tables → List ℤ → Read
@@ -120,7 +114,7 @@ module _ (c : Tables) (points : List ℤ) (fits : Fits c points) where
         le-ltb most-vertices (VIn f) (omega (arith, V-read, fits .few-vertices)),
       )
 
-  room-passes : (lent : Tables) (lentPoints : List ℤ) → Room c points lent lentPoints → first (shortTables (HIn f) lent ++ (short 4 (3 * VIn f) (length lentPoints) ∷ [])) ≡ DONE
+  room-passes : (lent : Tables) (lentPoints : List ℤ) → RoomFor (length (c .twin)) (vertices points) lent lentPoints → first (shortTables (HIn f) lent ++ (short 4 (3 * VIn f) (length lentPoints) ∷ [])) ≡ DONE
   unfolding shortTables short first given
   room-passes lent lentPoints room =
       simp (
@@ -130,7 +124,7 @@ module _ (c : Tables) (points : List ℤ) (fits : Fits c points) where
         le-ltb (length lentPoints) (3 * VIn f) (omega (arith, V-read, fits .shaped)),
       )
 
-  verdict : (lent : Tables) (lentPoints : List ℤ) → Room c points lent lentPoints → readVerdict f lent lentPoints ≡ DONE
+  verdict : (lent : Tables) (lentPoints : List ℤ) → RoomFor (length (c .twin)) (vertices points) lent lentPoints → readVerdict f lent lentPoints ≡ DONE
   unfolding readVerdict
   verdict lent lentPoints room =
       first-more (fieldChecks f 0 opening) _ (checks-pass .0)
@@ -138,5 +132,5 @@ module _ (c : Tables) (points : List ℤ) (fits : Fits c points) where
       ∙ first-more (fieldsChecks f (past 0 opening) (heads (HIn f) (VIn f))) _ (rw (H-read, V-read) (checks-pass .1))
       ∙ room-passes lent lentPoints room
 
-  pub read-back : (lent : Tables) (lentPoints : List ℤ) → Room c points lent lentPoints → readFile f lent lentPoints ≡ cageRead c points lent lentPoints
+  pub read-back : (lent : Tables) (lentPoints : List ℤ) → RoomFor (length (c .twin)) (vertices points) lent lentPoints → readFile f lent lentPoints ≡ cageRead c points lent lentPoints
   read-back lent lentPoints room = read-done f lent lentPoints (verdict lent lentPoints room) ∙ rw (H-read, V-read, twins-read, verts-read, edges-read, points-read)

@@ -12,15 +12,16 @@ use Rattle.laws.specs.Splice.{over}
 use Rattle.halfedges.specs.Refusals.{DONE}
 use Rattle.halfedges.proofs.Checks.{done-both}
 use Rattle.connectivity.specs.Tables.{Tables, tables}
-use Rattle.points.specs.Operations.{cageChecks}
+use Rattle.points.specs.Operations.{vertices, cageChecks}
 use Rattle.cagefile.specs.Fields.{file}
 use Rattle.cagefile.specs.Reading.{readVerdict, twinsIn, vertsIn, edgesIn, pointsIn, Read, readFile}
 use Rattle.cagefile.specs.Writing.{writeVerdict, Written, writeFile}
-use Rattle.cagefile.proofs.Numbers.{Bytes}
+use Rattle.cagefile.proofs.NumberLaws.{Bytes}
 use Rattle.cagefile.proofs.Accepted.{accepted-fits}
 use Rattle.cagefile.proofs.Outcomes.{read-done, write-done, twins-length, verts-length, edges-length, points-length}
-use Rattle.cagefile.proofs.ReadBack.{Room, cageRead, read-back}
-use Rattle.cagefile.proofs.WriteBack.{read-sound, sound-at-most, write-back}
+use Rattle.cagefile.proofs.ReadBack.{cageRead, read-back}
+use Rattle.cagefile.proofs.Verdict.{RoomFor, read-sound, sound-at-most}
+use Rattle.cagefile.proofs.WriteBack.{write-back}
 
 -- the file that was written: as many bytes as were answered
 abbrev pub fileOf : Written → List ℕ
@@ -36,7 +37,7 @@ pointsOf r = take (3 * getD (r .answer .values) 1 0) (r .points)
 written-file : (c : Tables) (points : List ℤ) (lent : List ℕ) → writeVerdict c points lent ≡ DONE → fileOf (writeFile c points lent) ≡ file c points
 written-file c points lent e = ap fileOf (write-done c points lent e) ∙ take-at (file c points) _ _ refl
 
-pub written-reads : (c : Tables) (points : List ℤ) (lentFile : List ℕ) → writeVerdict c points lentFile ≡ DONE → (lent : Tables) (lentPoints : List ℤ) → Room c points lent lentPoints → readFile (fileOf (writeFile c points lentFile)) lent lentPoints ≡ cageRead c points lent lentPoints
+pub written-reads : (c : Tables) (points : List ℤ) (lentFile : List ℕ) → writeVerdict c points lentFile ≡ DONE → (lent : Tables) (lentPoints : List ℤ) → RoomFor (length (c .twin)) (vertices points) lent lentPoints → readFile (fileOf (writeFile c points lentFile)) lent lentPoints ≡ cageRead c points lent lentPoints
 unfolding writeVerdict
 written-reads c points lentFile e lent lentPoints room =
     rw (written-file c points lentFile e) (read-back c points (accepted-fits c points (done-both (cageChecks c points 0) _ e .0)) lent lentPoints room)

@@ -1,72 +1,33 @@
 -- The second round trip: a file that reads is the file of what was read (`write-back`). Assumes nothing.
---     read-parts      what the verdict of reading says, part by part
---     read-length     a file that reads has 24 + 6H + 12V bytes
---     read-at-most    and 43,032 at most
 use Prim.Native.Nat.{ℕ, _+_, _*_, _≤_}
 use mathlib.Core.Path.{_≡_, refl, sym, ap, ap₂, _∙_}
 use mathlib.Core.List.{List, [], _∷_, map, flatMap}
 use native.Mathlib.Omega.{arith}
-use lib.IntN.{ℤ}
 use lib.ListN.{length, take, drop}
-use borrow.Author.Tests.{eqb-true, not-false}
 use Rattle.laws.specs.Below.{tabulate}
 use Rattle.laws.proofs.Chunks.{put-read, flatMap-map}
-use Rattle.halfedges.specs.Cage.{most-halfedges, most-vertices}
-use Rattle.halfedges.specs.Refusals.{DONE, first}
-use Rattle.halfedges.proofs.Checks.{first-more, done-both, done-passes}
-use Rattle.halfedges.proofs.Questions.{limits-kept}
-use Rattle.connectivity.specs.Tables.{Tables, tables}
+use Rattle.connectivity.specs.Tables.{tables}
 use Rattle.points.specs.Operations.{vertices}
 use Rattle.cagefile.specs.Fields.{u16, u32, twos, opening, heads, payloads, fields, file}
-use Rattle.cagefile.specs.Reading.{u16At, u32At, asTwin, signed, past, fieldChecks, fieldsChecks, formIn, HIn, VIn, openingChecks, readVerdict, payloadAt, payload, twinsIn, vertsIn, edgesIn, pointsIn}
-use Rattle.cagefile.proofs.Numbers.{Bytes, stored, u16At-small, u32At-small, u16-put, u32-put, stored-asTwin, twos-signed}
+use Rattle.cagefile.specs.Reading.{u16At, u32At, asTwin, signed, HIn, VIn, payloadAt, payload, twinsIn, vertsIn, edgesIn, pointsIn}
+use Rattle.cagefile.proofs.NumberLaws.{Bytes, stored, u16At-small, u32At-small, u16-put, u32-put, stored-asTwin, twos-signed}
 use Rattle.cagefile.proofs.Outcomes.{twins-length, points-length}
-use Rattle.cagefile.proofs.FieldLaws.{payloadsIn, fields-hold, fields-end}
-
--- what reading asks of a file, beside room
-pub record Sound (f : List ℕ) : Type 0 where
-  pub fields : first (fieldsChecks f 0 (opening ∷ heads (HIn f) (VIn f))) ≡ DONE
-  pub form : formIn f ≡ 1
-  pub few-halfedges : HIn f ≤ most-halfedges
-  pub few-vertices : VIn f ≤ most-vertices
-
-module _ (f : List ℕ) (lent : Tables) (lentPoints : List ℤ) (e : readVerdict f lent lentPoints ≡ DONE) where
-  pub read-sound : Sound f
-  unfolding readVerdict openingChecks fieldsChecks
-  read-sound =
-      let a = done-both (fieldChecks f 0 opening) _ e in
-      let b = done-both (openingChecks f) _ (a .1) in
-      let c = done-both (fieldsChecks f (past 0 opening) (heads (HIn f) (VIn f))) _ (b .1) in
-      let form = done-passes _ _ _ refl (b .0) in
-      let shape = done-passes _ _ _ refl (form .1) in
-      let limits = limits-kept (HIn f) (VIn f) 0 (done-passes _ _ _ refl (shape .1) .0) in
-      record {
-        fields = first-more (fieldChecks f 0 opening) _ (a .0) ∙ c .0;
-        form = eqb-true _ _ (not-false _ (form .0));
-        few-halfedges = limits .0;
-        few-vertices = limits .1;
-      }
+use Rattle.cagefile.proofs.Verdict.{Sound, sound-length}
+use Rattle.cagefile.proofs.FieldLaws.{payloadsIn, fields-hold}
 
 module _ (f : List ℕ) (s : Sound f) where
-  pub sound-length : length f ≡ 24 + 6 * HIn f + 12 * VIn f
-  unfolding payloadAt heads
-  sound-length = omega (arith, fields-end f _ 0 (omega arith) (s .fields))
-
-  pub sound-at-most : length f ≤ 43032
-  sound-at-most = omega (arith, sound-length)
-
   V-back : vertices (pointsIn f) ≡ VIn f
   V-back = omega (arith, points-length f)
 
   module _ (b : Bytes f) where
     counts-put : flatMap u16 (1 ∷ length (twinsIn f) ∷ vertices (pointsIn f) ∷ []) ≡ take 6 (drop 3 f)
-    counts-put = rw (twins-length f, V-back, ← s .form) (put-read 2 u16 f (u16At f) (u16-put f b) 3 3 (omega (arith, sound-length)))
+    counts-put = rw (twins-length f, V-back, ← s .form) (put-read 2 u16 f (u16At f) (u16-put f b) 3 3 (omega (arith, sound-length f s)))
 
     twins-put : flatMap u16 (map stored (twinsIn f)) ≡ take (2 * HIn f) (drop (payload f 0) f)
     unfolding twinsIn payloadAt heads
     twins-put =
         flatMap-map stored u16 (twinsIn f)
-        ∙ put-read 2 (λ t. u16 (stored t)) f (λ at. asTwin (u16At f at)) (λ at l. ap u16 (stored-asTwin (u16At f at) (u16At-small f b at)) ∙ u16-put f b at l) (HIn f) (payload f 0) (omega (arith, sound-length))
+        ∙ put-read 2 (λ t. u16 (stored t)) f (λ at. asTwin (u16At f at)) (λ at l. ap u16 (stored-asTwin (u16At f at) (u16At-small f b at)) ∙ u16-put f b at l) (HIn f) (payload f 0) (omega (arith, sound-length f s))
 
     numbers-put : (k : ℕ) → payload f k + 2 * HIn f ≤ length f → flatMap u16 (tabulate (HIn f) (λ h. u16At f (payload f k + 2 * h))) ≡ take (2 * HIn f) (drop (payload f k) f)
     numbers-put k = put-read 2 u16 f (u16At f) (u16-put f b) (HIn f) (payload f k)
@@ -76,7 +37,7 @@ module _ (f : List ℕ) (s : Sound f) where
     points-put =
         let bytes : 4 * (3 * VIn f) ≡ 12 * VIn f = omega arith in
         flatMap-map twos u32 (pointsIn f)
-        ∙ put-read 4 (λ z. u32 (twos z)) f (λ at. signed (u32At f at)) (λ at l. ap u32 (twos-signed (u32At f at) (u32At-small f b at)) ∙ u32-put f b at l) (3 * VIn f) (payload f 3) (omega (arith, sound-length))
+        ∙ put-read 4 (λ z. u32 (twos z)) f (λ at. signed (u32At f at)) (λ at l. ap u32 (twos-signed (u32At f at) (u32At-small f b at)) ∙ u32-put f b at l) (3 * VIn f) (payload f 3) (omega (arith, sound-length f s))
         ∙ ap (λ n. take n (drop (payload f 3) f)) bytes
 
     payloads-put : payloads (tables (twinsIn f) (vertsIn f) (edgesIn f)) (pointsIn f) ≡ payloadsIn f 0 (opening ∷ heads (HIn f) (VIn f))
@@ -84,8 +45,8 @@ module _ (f : List ℕ) (s : Sound f) where
     payloads-put =
         ap₂ _∷_ counts-put
         (ap₂ _∷_ twins-put
-        (ap₂ _∷_ (numbers-put 1 (omega (arith, sound-length)))
-        (ap₂ _∷_ (numbers-put 2 (omega (arith, sound-length)))
+        (ap₂ _∷_ (numbers-put 1 (omega (arith, sound-length f s)))
+        (ap₂ _∷_ (numbers-put 2 (omega (arith, sound-length f s)))
         (ap₂ _∷_ points-put refl))))
 
     pub write-back : file (tables (twinsIn f) (vertsIn f) (edgesIn f)) (pointsIn f) ≡ f

@@ -1,1 +1,5 @@
-// The cage file: reading and writing. Definitions in specs/; the code comes to them.
+// The cage file: reading it into lent tables, and writing a cage's file.
+pub mod fields;
+pub mod numbers;
+pub mod reading;
+pub mod writing;

@@ -1,9 +1,9 @@
 -- Checks that follow each other, the first that holds being the answer. Assumes nothing.
---     first-more, first-stops     what the first checks answer decides, or the later ones do
+--     first-more, first-stops, first-passes    what the first checks answer decides, or the later ones do
+--     first-zero                  where the number is 0, all are done
 --     done-both                   where all are done, the first are and the later are
 --     refusal-passes, refusal-given, done-passes    the same of one refusal before the others
 --     done-nowhere                and of one with a place
---     first-zero                  where the number is 0, so is the place
 use Prim.Native.Nat.{ℕ, _<_}
 use mathlib.Core.Path.{_≡_, refl, sym, ap, _∙_}
 use mathlib.Core.Logic.{_≢_}
@@ -28,11 +28,14 @@ first-zero (v ∷ xs) z = by-test (eqb (v .number) 0) (λ t. rw t (first-zero xs
 pub first-more : (xs ys : List Verdict) → first xs ≡ DONE → first (xs ++ ys) ≡ first ys
 first-more xs ys e = rw (first-append xs ys, e)
 
-pub first-stops : (xs ys : List Verdict) → first xs .number ≢ 0 → first (xs ++ ys) ≡ first xs
-first-stops xs ys n = rw (first-append xs ys, ne-eqb _ _ n)
+pub first-stops : (xs ys : List Verdict) (v : Verdict) → v ≡ first xs → v .number ≢ 0 → v ≡ first (xs ++ ys)
+first-stops xs ys v e n = rw (first-append xs ys, ne-eqb _ _ (rw e at n)) e
+
+pub first-passes : (xs ys : List Verdict) (v : Verdict) → v ≡ first xs → v .number ≡ 0 → first (xs ++ ys) ≡ first ys
+first-passes xs ys v e z = first-more xs ys (first-zero xs (rw e at z))
 
 pub done-both : (xs ys : List Verdict) → first (xs ++ ys) ≡ DONE → (first xs ≡ DONE) × (first ys ≡ DONE)
-done-both xs ys e = by-test (eqb (first xs .number) 0) (λ t. let z = first-zero xs (eqb-true _ _ t) in (z, sym (first-more xs ys z) ∙ e)) (λ f. absurd (eqb-false _ _ f (ap (λ v. v .number) (sym (first-stops xs ys (eqb-false _ _ f)) ∙ e))))
+done-both xs ys e = by-test (eqb (first xs .number) 0) (λ t. let z = first-zero xs (eqb-true _ _ t) in (z, sym (first-more xs ys z) ∙ e)) (λ f. absurd (eqb-false _ _ f (ap (λ v. v .number) (first-stops xs ys (first xs) refl (eqb-false _ _ f) ∙ e))))
 
 -- one refusal before the others
 

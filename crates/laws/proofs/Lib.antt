@@ -3,3 +3,5 @@ pub mod Tabulate
 pub mod Sums
 pub mod Chunks
 pub mod Splice
+pub mod Signs
+pub mod Filling

@@ -1,6 +1,6 @@
 -- Laws of cells written over a list. Assumes nothing.
 --     splice-more      two splices end to end are one
---     over-more        the same from the front on
+--     over-more        the same where the first is at the front
 --     splice-part      what was written over a lent part is spliced into the whole
 --     splice-two       two stores side by side are a splice
 --     length-splice    nothing gets longer
@@ -16,14 +16,17 @@ use borrow.Rule.Slice.PartMut.{putMid, midOf}
 use Rattle.laws.specs.Splice.{over, splice}
 
 module _ {A : Type 0} where
-  pub over-more : (l x y : List A) → splice (over x l) (length x) y ≡ over (x ++ y) l
-  over-more l x y =
+  over-splice : (l x y : List A) → splice (over x l) (length x) y ≡ over (x ++ y) l
+  over-splice l x y =
       rw (take-at x (drop (length x) l) (length x) refl, drop-at x (drop (length x) l) (length x) refl, drop-drop (length y) (length x) l, length-append, append-assoc)
+
+  pub over-more : (d l x y : List A) (k : ℕ) → l ≡ over x d → length x ≡ k → splice l k y ≡ over (x ++ y) d
+  over-more d l x y k e n = rw (e, ← n) (over-splice d x y)
 
   pub splice-more : (l x y : List A) (at : ℕ) → at ≤ length l → splice (splice l at x) (at + length x) y ≡ splice l at (x ++ y)
   splice-more l x y at h =
       rw (seam, take-append-add (take at l) (over x (drop at l)) (length x), drop-append-add (take at l) (over x (drop at l)) (length x), append-assoc (take at l))
-      (ap (λ t. take at l ++ t) (over-more (drop at l) x y))
+      (ap (λ t. take at l ++ t) (over-splice (drop at l) x y))
     where
       seam : at + length x ≡ length (take at l) + length x
       seam = ap (λ n. n + length x) (sym (length-take-le at l h))
