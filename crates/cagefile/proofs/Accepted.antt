@@ -1,4 +1,5 @@
--- A cage that the checks accept fits the file: `accepted-fits`. Assumes nothing.
+-- A cage that the checks accept fits the file (`accepted-fits`), and where writing is done there is room besides (`write-fits`).
+-- Assumes nothing.
 use Prim.Native.Nat.{ℕ, _≤_, _<_}
 use mathlib.Core.Path.{_≡_, refl}
 use mathlib.Core.Logic.{_⊎_, inl, inr}
@@ -11,14 +12,16 @@ use borrow.Author.Tests.{eqb-true, eqb-false, leb-false, ltb-false, not-false}
 use Rattle.laws.proofs.Tests.{or-false, or-false₃, by-test}
 use Rattle.laws.proofs.Sums.{sum-at-most}
 use Rattle.halfedges.specs.Cage.{E, marker, cell, border, above}
-use Rattle.halfedges.specs.Refusals.{DONE, TWIN, VERTEX, UNUSED, EDGE, FAN, POINT, first}
-use Rattle.halfedges.proofs.Checks.{done-passes, done-nowhere}
+use Rattle.halfedges.specs.Refusals.{DONE, short, TWIN, VERTEX, UNUSED, EDGE, FAN, POINT, first}
+use Rattle.halfedges.proofs.Checks.{done-both, done-passes, done-nowhere}
 use Rattle.halfedges.proofs.Questions.{limits-kept}
 use Rattle.connectivity.specs.Tables.{Tables}
 use Rattle.connectivity.specs.Rules.{misshapen, badTwin, badVertex, unused, badEdge}
 use Rattle.connectivity.specs.Fans.{notOneFan}
 use Rattle.connectivity.specs.Operations.{rules}
 use Rattle.points.specs.Operations.{vertices, outOfRange, cageChecks}
+use Rattle.cagefile.specs.Fields.{file}
+use Rattle.cagefile.specs.Writing.{writeVerdict}
 use Rattle.cagefile.proofs.Fits.{Fits}
 
 -- no more edges than halfedges
@@ -76,3 +79,10 @@ accepted-fits c points e =
       edges = λ h l. edge-kept c v h (edges .0 h (rw eedge at l));
       coordinates = λ i l. ltb-false _ _ (range .0 i l);
     }
+
+-- where writing is done, the cage fits and its file has room
+pub write-fits : (c : Tables) (points : List ℤ) (lent : List ℕ) → writeVerdict c points lent ≡ DONE → Fits c points × (length (file c points) ≤ length lent)
+unfolding writeVerdict short
+write-fits c points lent e =
+    let d = done-both (cageChecks c points 0) _ e in
+    (accepted-fits c points (d .0), ltb-false _ _ (done-passes _ _ _ refl (d .1) .0))

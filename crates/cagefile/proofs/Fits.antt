@@ -34,15 +34,18 @@ pub record Fits (c : Tables) (points : List ℤ) : Type 0 where
   pub edges : (h : ℕ) → h < length (c .edge) → cell (c .edge) h < length (c .twin)
   pub coordinates : (i : ℕ) → i < length points → natAbs (getD points i (pos 0)) ≤ most-coordinate
 
-length-u16s : (xs : List ℕ) → length (flatMap u16 xs) ≡ 2 * length xs
+pub length-u16s : (xs : List ℕ) → length (flatMap u16 xs) ≡ 2 * length xs
 length-u16s = length-flatMap u16 2 (λ _. refl)
+
+pub length-coordinates : (zs : List ℤ) → length (flatMap u32 (map twos zs)) ≡ 4 * length zs
+length-coordinates zs = length-flatMap u32 4 (λ _. refl) (map twos zs) ∙ ap (λ n. 4 * n) (length-map zs twos)
 
 module _ (c : Tables) (points : List ℤ) (shaped : Shaped c points) where
   twins-length : length (flatMap u16 (map stored (c .twin))) ≡ 2 * length (c .twin)
   twins-length = length-u16s (map stored (c .twin)) ∙ ap (λ n. 2 * n) (length-map (c .twin) stored)
 
   points-length : length (flatMap u32 (map twos points)) ≡ 12 * vertices points
-  points-length = length-flatMap u32 4 (λ _. refl) (map twos points) ∙ ap (λ n. 4 * n) (length-map points twos) ∙ omega arith
+  points-length = length-coordinates points ∙ omega arith
 
   pub file-sized : length (c .twin) ≤ most-halfedges → vertices points ≤ most-vertices → Sized (opening ∷ heads (length (c .twin)) (vertices points)) (payloads c points)
   unfolding heads payloads

@@ -4,6 +4,7 @@ pub mod FieldLaws
 pub mod Verdict
 pub mod Outcomes
 pub mod Fits
+pub mod FieldWriting
 pub mod Accepted
 pub mod ReadBack
 pub mod WriteBack

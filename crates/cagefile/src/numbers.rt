@@ -3,7 +3,7 @@ ghost use mathlib.Core.Path.{_≡_};
 ghost use Prim.Native.Nat.{_+_, _≤_, _<_};
 ghost use lib.ListN.{length};
 ghost use Rattle.laws.specs.Splice.{splice};
-ghost use Rattle.cagefile.specs.Fields.{u16, twos};
+ghost use Rattle.cagefile.specs.Fields.{u16, u32, twos};
 ghost use Rattle.cagefile.specs.Reading.{u16At, u32At, signed as Reading·signed};
 
 // The number in two bytes.
@@ -44,11 +44,21 @@ fn signed(bits: u32) -> i32
 }
 
 // A coordinate in two's complement.
-pub fn bits_of(coordinate: i32) -> u32
+fn bits_of(coordinate: i32) -> u32
     ensures { λ r. ⌜ r ≡ twos coordinate ⌝ }
 {
     if coordinate < 0 {
         return 4294967295 - (-1 - coordinate) as u32;
     }
     coordinate as u32
+}
+
+// A coordinate into four bytes.
+pub fn put_coordinate(part: &mut [u8], at: usize, coordinate: i32)
+    requires { ⌜ at + 4 ≤ length (now part) ⌝ }
+    ensures { λ _. ⌜ now (part .exit) ≡ splice (now (part .entry)) at (u32 (twos coordinate)) ⌝ }
+{
+    let bits = bits_of(coordinate);
+    put_number(&mut *part, at, bits % 65536);
+    put_number(&mut *part, at + 2, bits / 65536);
 }

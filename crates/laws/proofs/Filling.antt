@@ -7,12 +7,12 @@ use mathlib.Core.List.{List, [], _∷_, _++_, flatMap, append-nil}
 use native.Mathlib.Numerals.{add-one}
 use native.Mathlib.Omega.{arith}
 use lib.ListN.{length, getD, set, take}
-use lib.Seq.{length-take-le, take-suc, set-split, drop-drop}
+use lib.Seq.{length-take-le, take-suc}
 use Rattle.laws.specs.Below.{tabulate}
 use Rattle.laws.specs.Splice.{over, splice}
 use Rattle.laws.proofs.Tabulate.{length-tabulate}
 use Rattle.laws.proofs.Chunks.{flatMap-append, length-flatMap}
-use Rattle.laws.proofs.Splice.{over-more}
+use Rattle.laws.proofs.Splice.{over-more, splice-one}
 
 module _ {A : Type 0} where
   tabulate-last : (n : ℕ) (f : ℕ → A) → tabulate (suc n) f ≡ tabulate n f ++ (f n ∷ [])
@@ -21,9 +21,6 @@ module _ {A : Type 0} where
 
   tabulate-more : (n : ℕ) (f : ℕ → A) → tabulate (n + 1) f ≡ tabulate n f ++ (f n ∷ [])
   tabulate-more n f = rw (add-one n) (tabulate-last n f)
-
-  splice-one : (l : List A) (at : ℕ) (a : A) → at < length l → set l at a ≡ splice l at (a ∷ [])
-  splice-one l at a h = rw (drop-drop 1 at l, add-one) (set-split l at a h)
 
   pub over-next : (d l : List A) (f : ℕ → A) (k : ℕ) (a : A) → k < length l → l ≡ over (tabulate k f) d → a ≡ f k → set l k a ≡ over (tabulate (k + 1) f) d
   over-next d l f k a h e p =
