@@ -1,5 +1,6 @@
 // The cage file: reading it into lent tables, and writing a cage's file.
-pub mod fields;
-pub mod numbers;
+mod checks;
+mod fields;
+mod numbers;
 pub mod reading;
 pub mod writing;

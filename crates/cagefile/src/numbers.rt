@@ -11,7 +11,9 @@ pub fn number_at(file: &[u8], at: usize) -> u32
     requires { ⌜ at + 2 ≤ length (now file) ⌝ }
     ensures { λ r. ⌜ (r ≡ u16At (now (file .entry)) at) × (r < 65536) ⌝ }
 {
-    (file[at] as u32) + 256 * (file[at + 1] as u32)
+    let low = file[at] as u32;
+    let high = file[at + 1] as u32;
+    low + 256 * high
 }
 
 // A number into two bytes; of a larger number, its last two.

@@ -68,7 +68,10 @@ fn write_opening(file: &mut [u8], halfedges: u32, vertices: u32) -> usize
 // The field of TWIN, VERT or EDGE. Answers where the next head goes.
 fn write_table(file: &mut [u8], at: usize, tag: u8, table: &[u32]) -> usize
     requires { ⌜ (at + 3 + 2 * length (now table) ≤ length (now file)) × (length (now table) < 65536) ⌝ }
-    ensures { λ r. let size = 2 * length (now (table .entry)) in ⌜ (r ≡ at + 3 + size) × (now (file .exit) ≡ splice (now (file .entry)) at (field (record { tag = tag; size = size }) (flatMap u16 (now (table .entry))))) ⌝ }
+    ensures { λ r.
+        let size = 2 * length (now (table .entry)) in
+        ⌜ (r ≡ at + 3 + size)
+        × (now (file .exit) ≡ splice (now (file .entry)) at (field (record { tag = tag; size = size }) (flatMap u16 (now (table .entry))))) ⌝ }
 {
     let size = 2 * table.len();
     put_head(&mut *file, at, tag, size as u32);
@@ -80,7 +83,10 @@ fn write_table(file: &mut [u8], at: usize, tag: u8, table: &[u32]) -> usize
 // The field of the points. Answers where the next head goes.
 fn write_points(file: &mut [u8], at: usize, points: &[i32]) -> usize
     requires { ⌜ (at + 3 + 4 * length (now points) ≤ length (now file)) × (length (now points) < 65536) ⌝ }
-    ensures { λ r. let size = 4 * length (now (points .entry)) in ⌜ (r ≡ at + 3 + size) × (now (file .exit) ≡ splice (now (file .entry)) at (field (record { tag = 0x30; size = size }) (flatMap u32 (map twos (now (points .entry)))))) ⌝ }
+    ensures { λ r.
+        let size = 4 * length (now (points .entry)) in
+        ⌜ (r ≡ at + 3 + size)
+        × (now (file .exit) ≡ splice (now (file .entry)) at (field (record { tag = 0x30; size = size }) (flatMap u32 (map twos (now (points .entry)))))) ⌝ }
 {
     let size = 4 * points.len();
     put_head(&mut *file, at, fields::POINTS, size as u32);
@@ -90,15 +96,11 @@ fn write_points(file: &mut [u8], at: usize, points: &[i32]) -> usize
 }
 
 // The file of a cage that the check accepts, into a lent file with room for it. Answers the file's length.
-pub fn write_fields(
-    file: &mut [u8],
-    twin: &[u32],
-    vert: &[u32],
-    edge: &[u32],
-    points: &[i32],
-) -> usize
+fn write_fields(file: &mut [u8], twin: &[u32], vert: &[u32], edge: &[u32], points: &[i32]) -> usize
     requires { ⌜ writeVerdict (tables (now twin) (now vert) (now edge)) (now points) (now file) ≡ DONE ⌝ }
-    ensures { λ r. let written = Fields·file (tables (now (twin .entry)) (now (vert .entry)) (now (edge .entry))) (now (points .entry)) in ⌜ (r ≡ length written) × (now (file .exit) ≡ over written (now (file .entry))) ⌝ }
+    ensures { λ r.
+        let written = Fields·file (tables (now (twin .entry)) (now (vert .entry)) (now (edge .entry))) (now (points .entry)) in
+        ⌜ (r ≡ length written) × (now (file .exit) ≡ over written (now (file .entry))) ⌝ }
 {
     let halfedges = twin.len() as u32;
     let vertices = (points.len() / 3) as u32;

@@ -4,13 +4,11 @@
 --     splice-part      what was written over a lent part is spliced into the whole
 --     splice-one       a store is a splice
 --     splice-two       and so are two side by side
---     length-splice    nothing gets longer
 use Prim.Native.Nat.{ℕ, _+_, _-_, _≤_, _<_}
 use mathlib.Core.Path.{_≡_, refl, sym, ap, _∙_}
 use mathlib.Core.List.{List, [], _∷_, _++_, append-assoc, append-nil}
 use native.Mathlib.Nat.{le-refl}
 use native.Mathlib.Numerals.{add-one}
-use native.Mathlib.Omega.{arith}
 use lib.ListN.{length, set, take, drop, length-append, length-drop, drop-of-length-le}
 use lib.Seq.{set-split, sets-eq, length-take-le, drop-drop, take-at, drop-at, take-all, take-append-add, drop-append-add}
 use borrow.Rule.Slice.PartMut.{putMid, midOf}
@@ -31,9 +29,6 @@ module _ {A : Type 0} where
     where
       seam : at + length x ≡ length (take at d) + length x
       seam = ap (λ n. n + length x) (sym (length-take-le at d h))
-
-  pub length-splice : (l x : List A) (at : ℕ) → at + length x ≤ length l → length (splice l at x) ≡ length l
-  length-splice l x at h = simp (length-append, length-drop, length-take-le at l (omega arith)) (omega arith)
 
   pub splice-part : (l x : List A) (at : ℕ) → putMid at (length l - at) l (over x (midOf at (length l - at) l)) ≡ splice l at x
   splice-part l x at = rw (whole, none) (ap (λ t. take at l ++ t) (append-nil _))

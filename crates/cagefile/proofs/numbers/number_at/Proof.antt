@@ -1,6 +1,6 @@
 -- `number_at` is the definition's sum; two bytes are below 65,536.
-use Prim.Native.Nat.{_+_, _<_}
 use borrow.Author.Needs.{needs}
+use Prim.Native.Nat.{_+_, _<_}
 use mathlib.Core.Path.{refl}
 use native.Mathlib.Omega.{arith}
 use lib.ListN.{getD}
@@ -14,26 +14,26 @@ module _ (c : tie.After-shared-slice-known2) where
   high : getD (c .before .before .args .file .now) (c .before .before .args .at + 1) 0 < 256
   high = c .shared-slice-known2 .given (c .before .before .args .at + 1) .fits
 
-shared-slice-read-result : tie.Need-shared-slice-read-result
-shared-slice-read-result c = search needs
+shared-slice-read-low : tie.Need-shared-slice-read-low
+shared-slice-read-low c = search needs
 
-cast-result : tie.Need-cast-result
-cast-result c = omega (arith, c .shared-slice-known .given (c .before .args .at))
+cast-low : tie.Need-cast-low
+cast-low c = omega (arith, c .shared-slice-known .given (c .before .args .at))
 
-add-result : tie.Need-add-result
-add-result c = search needs
+add-high : tie.Need-add-high
+add-high c = search needs
 
-shared-slice-read-result-2 : tie.Need-shared-slice-read-result-2
-shared-slice-read-result-2 c = search needs
+shared-slice-read-high : tie.Need-shared-slice-read-high
+shared-slice-read-high c = search needs
 
-cast-result-2 : tie.Need-cast-result-2
-cast-result-2 c = omega (arith, high c)
+cast-high : tie.Need-cast-high
+cast-high c = omega (arith, high c)
 
 mul-result : tie.Need-mul-result
-mul-result c = omega (arith, high c)
+mul-result c = omega (arith, low c, high c)
 
-add-result-2 : tie.Need-add-result-2
-add-result-2 c = omega (arith, low c, high c)
+add-result : tie.Need-add-result
+add-result c = omega (arith, low c, high c)
 
 returns : tie.Need-returns
 returns c = (refl, omega (arith, low c, high c))
@@ -42,11 +42,11 @@ pub number-at-spec : {M : Type 1} → statement M
 number-at-spec =
     tie.close
     (tie.spec
-    shared-slice-read-result
-    cast-result
-    add-result
-    shared-slice-read-result-2
-    cast-result-2
+    shared-slice-read-low
+    cast-low
+    add-high
+    shared-slice-read-high
+    cast-high
     mul-result
-    add-result-2
+    add-result
     returns)

@@ -2,8 +2,8 @@
 use borrow.Author.Needs.{needs}
 use borrow.Author.Tests.{lt-ltb, le-ltb}
 use Rattle.halfedges.specs.Refusals.{given, short, first}
-use Rattle.cagefile.proofs.reading.room_refusal.Statement.{statement}
-use Rattle.cagefile.proofs.reading.room_refusal.Tie as tie
+use Rattle.cagefile.proofs.checks.room_refusal.Statement.{statement}
+use Rattle.cagefile.proofs.checks.room_refusal.Tie as tie
 
 returns : tie.Need-returns
 unfolding short first given

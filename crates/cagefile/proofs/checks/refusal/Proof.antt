@@ -13,8 +13,8 @@ use Rattle.cagefile.specs.Fields.{opening, heads}
 use Rattle.cagefile.specs.Reading.{past, fieldChecks, fieldsChecks, HIn, VIn, openingChecks, readVerdict}
 use Rattle.cagefile.proofs.FieldLaws.{field-at}
 use Rattle.cagefile.proofs.Verdict.{opening-kept}
-use Rattle.cagefile.proofs.reading.refusal.Statement.{statement}
-use Rattle.cagefile.proofs.reading.refusal.Tie as tie
+use Rattle.cagefile.proofs.checks.refusal.Statement.{statement}
+use Rattle.cagefile.proofs.checks.refusal.Tie as tie
 
 module _ (s : tie.Start) where
   abbrev f : List ℕ
@@ -31,33 +31,43 @@ module _ (s : tie.Start) where
   abbrev rest : ℕ → ℕ → List Verdict
   rest h v = fieldsChecks f (past 0 opening) (heads h v) ++ room h v
 
+-- the function's entry, from after each test
+abbrev start₁ : tie.Else1 → tie.Start
+start₁ c = c .before .before .before .before .before .before .before
+
+abbrev start₂ : tie.Else2 → tie.Start
+start₂ c = start₁ (c .before .before .before)
+
+abbrev start₃ : tie.Else3 → tie.Start
+start₃ c = start₂ (c .before .before .before .before .before)
+
 -- ---- after the first head
 
 module _ (c : tie.Else1) where
-  head-done : first (fieldChecks (f (c .before .before .before .before .before .before .before)) 0 opening) ≡ DONE
+  head-done : first (fieldChecks (f (start₁ c)) 0 opening) ≡ DONE
   head-done = first-zero _ (rw (c .before .before .field-refusal .ensures) at (sym (c .before .number .ensures) ∙ c .if1 .left))
 
-  whole : 9 ≤ length (f (c .before .before .before .before .before .before .before))
+  whole : 9 ≤ length (f (start₁ c))
   whole = field-at _ 0 opening head-done .whole
 
-  head-passed : verdict (c .before .before .before .before .before .before .before) ≡ first (openingChecks (f (c .before .before .before .before .before .before .before)) ++ rest (c .before .before .before .before .before .before .before) (HIn (f (c .before .before .before .before .before .before .before))) (VIn (f (c .before .before .before .before .before .before .before))))
+  head-passed : verdict (start₁ c) ≡ first (openingChecks (f (start₁ c)) ++ rest (start₁ c) (HIn (f (start₁ c))) (VIn (f (start₁ c))))
   unfolding readVerdict shortTables
   head-passed = first-more _ _ head-done
 
 -- ---- after the first payload
 
 module _ (c : tie.Else2) where
-  counts-done : first (openingChecks (f (c .before .before .before .before .before .before .before .before .before .before))) ≡ DONE
+  counts-done : first (openingChecks (f (start₂ c))) ≡ DONE
   counts-done = first-zero _ (rw (c .before .before .opening-refusal .ensures) at (sym (c .before .number2 .ensures) ∙ c .if2 .left))
 
-  counts-passed : verdict (c .before .before .before .before .before .before .before .before .before .before) ≡ first (rest (c .before .before .before .before .before .before .before .before .before .before) (HIn (f (c .before .before .before .before .before .before .before .before .before .before))) (VIn (f (c .before .before .before .before .before .before .before .before .before .before))))
+  counts-passed : verdict (start₂ c) ≡ first (rest (start₂ c) (HIn (f (start₂ c))) (VIn (f (start₂ c))))
   counts-passed = head-passed (c .before .before .before) ∙ first-more _ _ counts-done
 
 -- the same with H and V as the code has them
-counts-had : (c : tie.After-vertices-in) → verdict (c .before .before .before .before .before .before .before .before .before .before .before .before) ≡ first (rest (c .before .before .before .before .before .before .before .before .before .before .before .before) (c .before .halfedges-in .result) (c .vertices-in .result))
-counts-had c = counts-passed (c .before .before) ∙ sym (ap₂ (λ h v. first (rest (c .before .before .before .before .before .before .before .before .before .before .before .before) h v)) (c .before .halfedges-in .ensures .0) (c .vertices-in .ensures .0))
+counts-had : (c : tie.After-vertices-in) → verdict (start₂ (c .before .before)) ≡ first (rest (start₂ (c .before .before)) (c .before .halfedges-in .result) (c .vertices-in .result))
+counts-had c = counts-passed (c .before .before) ∙ sym (ap₂ (λ h v. first (rest (start₂ (c .before .before)) h v)) (c .before .halfedges-in .ensures .0) (c .vertices-in .ensures .0))
 
-fields-passed : (c : tie.Else3) → verdict (c .before .before .before .before .before .before .before .before .before .before .before .before .before .before .before) ≡ first (room (c .before .before .before .before .before .before .before .before .before .before .before .before .before .before .before) (c .before .before .before .before .halfedges-in .result) (c .before .before .before .vertices-in .result))
+fields-passed : (c : tie.Else3) → verdict (start₃ c) ≡ first (room (start₃ c) (c .before .before .before .before .halfedges-in .result) (c .before .before .before .vertices-in .result))
 fields-passed c = counts-had (c .before .before .before) ∙ first-passes _ _ _ (c .before .before .fields-refusal .ensures) (sym (c .before .number3 .ensures) ∙ c .if3 .left)
 
 field-refusal-requires : tie.Need-field-refusal-requires

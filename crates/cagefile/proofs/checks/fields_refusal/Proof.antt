@@ -9,8 +9,8 @@ use Rattle.cagefile.specs.Fields.{heads}
 use Rattle.cagefile.specs.Reading.{fieldsChecks}
 use Rattle.halfedges.proofs.Checks.{first-stops, first-passes}
 use borrow.Author.Needs.{needs}
-use Rattle.cagefile.proofs.reading.fields_refusal.Statement.{statement}
-use Rattle.cagefile.proofs.reading.fields_refusal.Tie as tie
+use Rattle.cagefile.proofs.checks.fields_refusal.Statement.{statement}
+use Rattle.cagefile.proofs.checks.fields_refusal.Tie as tie
 
 module _ (s : tie.Start) where
   -- what the fields from the kth on answer, where its head is expected at an offset
@@ -30,25 +30,41 @@ module _ (s : tie.Start) where
   abbrev end-at : ℕ
   end-at = points-at + 3 + 12 * s .args .vertices
 
-twin-passed : (c : tie.Else1) → from (c .before .before .before .before) 0 9 ≡ from (c .before .before .before .before) 1 (vert-at (c .before .before .before .before))
+-- the function's entry, from where each field has passed
+abbrev start₁ : tie.Else1 → tie.Start
+start₁ c = c .before .before .before .before
+
+abbrev start₂ : tie.Else2 → tie.Start
+start₂ c = start₁ (c .before .before .before)
+
+abbrev start₃ : tie.Else3 → tie.Start
+start₃ c = start₂ (c .before .before .before)
+
+abbrev start₄ : tie.Else4 → tie.Start
+start₄ c = start₃ (c .before .before .before)
+
+abbrev start₅ : tie.Else5 → tie.Start
+start₅ c = start₄ (c .before .before .before)
+
+twin-passed : (c : tie.Else1) → from (start₁ c) 0 9 ≡ from (start₁ c) 1 (vert-at (start₁ c))
 unfolding heads fieldsChecks
 twin-passed c = first-passes _ _ _ (c .before .before .field-refusal .ensures) (sym (c .before .number .ensures) ∙ c .if1 .left)
 
-vert-passed : (c : tie.Else2) → from (c .before .before .before .before .before .before .before) 0 9 ≡ from (c .before .before .before .before .before .before .before) 2 (edge-at (c .before .before .before .before .before .before .before))
+vert-passed : (c : tie.Else2) → from (start₂ c) 0 9 ≡ from (start₂ c) 2 (edge-at (start₂ c))
 unfolding heads fieldsChecks
 vert-passed c = twin-passed (c .before .before .before) ∙ first-passes _ _ _ (c .before .before .field-refusal2 .ensures) (sym (c .before .number2 .ensures) ∙ c .if2 .left)
 
-edge-passed : (c : tie.Else3) → from (c .before .before .before .before .before .before .before .before .before .before) 0 9 ≡ from (c .before .before .before .before .before .before .before .before .before .before) 3 (points-at (c .before .before .before .before .before .before .before .before .before .before))
+edge-passed : (c : tie.Else3) → from (start₃ c) 0 9 ≡ from (start₃ c) 3 (points-at (start₃ c))
 unfolding heads fieldsChecks
 edge-passed c = vert-passed (c .before .before .before) ∙ first-passes _ _ _ (c .before .before .field-refusal3 .ensures) (sym (c .before .number3 .ensures) ∙ c .if3 .left)
 
-points-passed : (c : tie.Else4) → from (c .before .before .before .before .before .before .before .before .before .before .before .before .before) 0 9 ≡ from (c .before .before .before .before .before .before .before .before .before .before .before .before .before) 4 (end-at (c .before .before .before .before .before .before .before .before .before .before .before .before .before))
+points-passed : (c : tie.Else4) → from (start₄ c) 0 9 ≡ from (start₄ c) 4 (end-at (start₄ c))
 unfolding heads fieldsChecks
 points-passed c = edge-passed (c .before .before .before) ∙ first-passes _ _ _ (c .before .before .field-refusal4 .ensures) (sym (c .before .number4 .ensures) ∙ c .if4 .left)
 
-end-passed : (c : tie.Else5) → from (c .before .before .before .before .before .before .before .before .before .before .before .before .before .before .before .before) 0 9 ≡ from (c .before .before .before .before .before .before .before .before .before .before .before .before .before .before .before .before) 5 (end-at (c .before .before .before .before .before .before .before .before .before .before .before .before .before .before .before .before) + 3)
+end-passed : (c : tie.Else5) → from (start₅ c) 0 9 ≡ from (start₅ c) 5 (end-at (start₅ c) + 3)
 unfolding heads fieldsChecks
-end-passed c = points-passed (c .before .before .before) ∙ first-passes _ _ _ (c .before .before .field-refusal5 .ensures) (sym (c .before .number5 .ensures) ∙ c .if5 .left) ∙ ap (from (c .before .before .before .before .before .before .before .before .before .before .before .before .before .before .before .before) 5) (add-zero (end-at (c .before .before .before .before .before .before .before .before .before .before .before .before .before .before .before .before) + 3))
+end-passed c = points-passed (c .before .before .before) ∙ first-passes _ _ _ (c .before .before .field-refusal5 .ensures) (sym (c .before .number5 .ensures) ∙ c .if5 .left) ∙ ap (from (start₅ c) 5) (add-zero (end-at (start₅ c) + 3))
 
 mul-table : tie.Need-mul-table
 mul-table c = search needs

@@ -4,8 +4,8 @@ use mathlib.Core.Path.{sym, _∙_}
 use borrow.Author.Tests.{eq-eqb, ne-eqb, lt-ltb, le-ltb}
 use Rattle.halfedges.specs.Refusals.{given, first}
 use Rattle.cagefile.specs.Reading.{fieldChecks}
-use Rattle.cagefile.proofs.reading.field_refusal.Statement.{statement}
-use Rattle.cagefile.proofs.reading.field_refusal.Tie as tie
+use Rattle.cagefile.proofs.checks.field_refusal.Statement.{statement}
+use Rattle.cagefile.proofs.checks.field_refusal.Tie as tie
 
 add-if1 : tie.Need-add-if1
 add-if1 c = search needs

@@ -9,8 +9,8 @@ use borrow.Author.Tests.{eq-eqb, ne-eqb}
 use Rattle.halfedges.specs.Refusals.{given, first}
 use Rattle.halfedges.specs.Counts.{aboveLimit}
 use Rattle.cagefile.specs.Reading.{formIn, HIn, VIn, openingChecks}
-use Rattle.cagefile.proofs.reading.opening_refusal.Statement.{statement}
-use Rattle.cagefile.proofs.reading.opening_refusal.Tie as tie
+use Rattle.cagefile.proofs.checks.opening_refusal.Statement.{statement}
+use Rattle.cagefile.proofs.checks.opening_refusal.Tie as tie
 
 module _ (n : tie.After-vertices-in) where
   abbrev f : List ℕ
