@@ -90,7 +90,8 @@ module _ (f : List ℕ) where
       first-more (fieldChecks f at h) _ (field-passes f at h (stands f at h p (fields hs ps) l e s))
       ∙ fields-pass sized (past at h) (beyond f at h p (fields hs ps) l e)
 
-  pub payload-at : {hs : List Head} {ps : List (List ℕ)} → Sized hs ps → (k at : ℕ) → k < length hs → drop at f ≡ fields hs ps → drop (payloadAt at (take k hs)) f ≡ getD ps k [] ++ fields (drop (suc k) hs) (drop (suc k) ps)
+  pub payload-at : {hs : List Head} {ps : List (List ℕ)} → Sized hs ps → (k at : ℕ) → k < length hs
+      → drop at f ≡ fields hs ps → drop (payloadAt at (take k hs)) f ≡ getD ps k [] ++ fields (drop (suc k) hs) (drop (suc k) ps)
   unfolding fields payloadAt
   payload-at none k at i e = absurd (not-suc-le-zero i)
   payload-at (more {h} {p} {hs} {ps} l s sized) zero at i e = after f at h p (fields hs ps) l e

@@ -18,7 +18,9 @@ use Rattle.cagefile.specs.Fields.{u16, u32, twos, Head, opening, heads, 
 use Rattle.cagefile.proofs.NumberLaws.{stored, u16-stored}
 use Rattle.cagefile.proofs.Fits.{Shaped, length-u16s, length-coordinates}
 
-pub field-written : (f f₁ part payload : List ℕ) (at : ℕ) (h : Head) → at ≤ length f → f₁ ≡ splice f at (h .tag ∷ u16 (h .size)) → part ≡ over payload (midOf (at + 3) (length f₁ - (at + 3)) f₁) → putMid (at + 3) (length f₁ - (at + 3)) f₁ part ≡ splice f at (field h payload)
+pub field-written : (f f₁ part payload : List ℕ) (at : ℕ) (h : Head) → at ≤ length f
+    → f₁ ≡ splice f at (h .tag ∷ u16 (h .size)) → part ≡ over payload (midOf (at + 3) (length f₁ - (at + 3)) f₁)
+    → putMid (at + 3) (length f₁ - (at + 3)) f₁ part ≡ splice f at (field h payload)
 field-written f f₁ part payload at h l e p =
     rw p (splice-part f₁ payload (at + 3) ∙ splice-more f f₁ (h .tag ∷ u16 (h .size)) payload at (at + 3) e refl l)
 
@@ -27,7 +29,8 @@ pub record Front (f₀ bytes f : List ℕ) (at : ℕ) : Type 0 where
   pub written : f ≡ over bytes f₀
   pub end : length bytes ≡ at
 
-pub front-more : {f₀ bytes f : List ℕ} {at : ℕ} → Front f₀ bytes f at → (more f₁ : List ℕ) (at₁ : ℕ) → f₁ ≡ splice f at more → at₁ ≡ at + length more → Front f₀ (bytes ++ more) f₁ at₁
+pub front-more : {f₀ bytes f : List ℕ} {at : ℕ} → Front f₀ bytes f at → (more f₁ : List ℕ) (at₁ : ℕ)
+    → f₁ ≡ splice f at more → at₁ ≡ at + length more → Front f₀ (bytes ++ more) f₁ at₁
 front-more {f₀} {bytes} {f} {at} w more f₁ at₁ e n =
     record { written = e ∙ over-more f₀ f bytes more at (w .written) (w .end); end = length-append bytes more ∙ ap (λ k. k + length more) (w .end) ∙ sym n }
 
@@ -65,7 +68,14 @@ module _ (c : Tables) (points : List ℤ) (shaped : Shaped c points) where
       ∙ regroup openingField (tableField 0x20 (c .twin)) (tableField 0x21 (c .vert)) (tableField 0x22 (c .edge)) pointsField (0x7F ∷ u16 0)
 
   -- the writers' promises, one after another
-  pub file-written : (f₀ f₁ f₂ f₃ f₄ f₅ f₆ : List ℕ) (a₁ a₂ a₃ a₄ a₅ : ℕ) → (a₁ ≡ 9) × (f₁ ≡ over openingField f₀) → (a₂ ≡ a₁ + 3 + 2 * length (c .twin)) × (f₂ ≡ splice f₁ a₁ (tableField 0x20 (c .twin))) → (a₃ ≡ a₂ + 3 + 2 * length (c .vert)) × (f₃ ≡ splice f₂ a₂ (tableField 0x21 (c .vert))) → (a₄ ≡ a₃ + 3 + 2 * length (c .edge)) × (f₄ ≡ splice f₃ a₃ (tableField 0x22 (c .edge))) → (a₅ ≡ a₄ + 3 + 4 * length points) × (f₅ ≡ splice f₄ a₄ pointsField) → f₆ ≡ splice f₅ a₅ (0x7F ∷ u16 0) → (a₅ + 3 ≡ length (file c points)) × (f₆ ≡ over (file c points) f₀)
+  pub file-written : (f₀ f₁ f₂ f₃ f₄ f₅ f₆ : List ℕ) (a₁ a₂ a₃ a₄ a₅ : ℕ)
+      → (a₁ ≡ 9) × (f₁ ≡ over openingField f₀)
+      → (a₂ ≡ a₁ + 3 + 2 * length (c .twin)) × (f₂ ≡ splice f₁ a₁ (tableField 0x20 (c .twin)))
+      → (a₃ ≡ a₂ + 3 + 2 * length (c .vert)) × (f₃ ≡ splice f₂ a₂ (tableField 0x21 (c .vert)))
+      → (a₄ ≡ a₃ + 3 + 2 * length (c .edge)) × (f₄ ≡ splice f₃ a₃ (tableField 0x22 (c .edge)))
+      → (a₅ ≡ a₄ + 3 + 4 * length points) × (f₅ ≡ splice f₄ a₄ pointsField)
+      → f₆ ≡ splice f₅ a₅ (0x7F ∷ u16 0)
+      → (a₅ + 3 ≡ length (file c points)) × (f₆ ≡ over (file c points) f₀)
   file-written f₀ f₁ f₂ f₃ f₄ f₅ f₆ a₁ a₂ a₃ a₄ a₅ e₁ e₂ e₃ e₄ e₅ e₆ =
       let w₁ : Front f₀ openingField f₁ a₁ = record { written = e₁ .1; end = omega (arith, length-u16s (1 ∷ length (c .twin) ∷ vertices points ∷ [])) } in
       let w₂ = front-more w₁ (tableField 0x20 (c .twin)) f₂ a₂ (e₂ .1) (omega (arith, length-u16s (c .twin))) in

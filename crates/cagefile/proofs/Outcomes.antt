@@ -37,15 +37,19 @@ module _ (f : List ℕ) (lent : Tables) (lentPoints : List ℤ) where
   unfolding readFile said filledTables filled
   read-done e = rw e
 
-  pub done-left : readVerdict f lent lentPoints ≡ DONE → (h v : ℕ) → h ≡ HIn f → v ≡ VIn f → (now : Tables) (nowPoints : List ℤ) → now ≡ allRead f lent lentPoints .lent → nowPoints ≡ allRead f lent lentPoints .points → Left (readFile f lent lentPoints) (record { verdict = DONE; values = h ∷ v ∷ [] }) now nowPoints
+  pub done-left : readVerdict f lent lentPoints ≡ DONE → (h v : ℕ) → h ≡ HIn f → v ≡ VIn f
+      → (now : Tables) (nowPoints : List ℤ) → now ≡ allRead f lent lentPoints .lent → nowPoints ≡ allRead f lent lentPoints .points
+      → Left (readFile f lent lentPoints) (record { verdict = DONE; values = h ∷ v ∷ [] }) now nowPoints
   done-left e h v p q now nowPoints t u = rw (read-done e, p, q, t, u) (refl, refl, refl, refl, refl)
 
-  pub refused-left : (v : Verdict) → v ≡ readVerdict f lent lentPoints → v .number ≢ 0 → Left (readFile f lent lentPoints) (record { verdict = v; values = 0 ∷ 0 ∷ [] }) lent lentPoints
+  pub refused-left : (v : Verdict) → v ≡ readVerdict f lent lentPoints
+      → v .number ≢ 0 → Left (readFile f lent lentPoints) (record { verdict = v; values = 0 ∷ 0 ∷ [] }) lent lentPoints
   unfolding readFile said filledTables filled
   refused-left v e n = rw (← e, ne-eqb _ _ n) (refl, refl, refl, refl, refl)
 
 -- what writing leaves where it is done
-pub write-done : (c : Tables) (points : List ℤ) (lent : List ℕ) → writeVerdict c points lent ≡ DONE → writeFile c points lent ≡ record { answer = record { verdict = DONE; values = length (file c points) }; file = over (file c points) lent }
+pub write-done : (c : Tables) (points : List ℤ) (lent : List ℕ) → writeVerdict c points lent ≡ DONE
+    → writeFile c points lent ≡ record { answer = record { verdict = DONE; values = length (file c points) }; file = over (file c points) lent }
 unfolding writeFile said filled
 write-done c points lent e = rw e
 

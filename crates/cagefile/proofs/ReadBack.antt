@@ -60,7 +60,11 @@ module _ (c : Tables) (points : List ℤ) (fits : Fits c points) where
   -- ---- the tables
 
   -- a payload that holds xs, read where reading looks for it
-  table-read : {A : Type 0} (width : ℕ) (put : A → List ℕ) (read : ℕ → A) (P : A → Type 0) → ((x : A) → length (put x) ≡ width) → ((at : ℕ) (x : A) (rest : List ℕ) → P x → drop at f ≡ put x ++ rest → read at ≡ x) → (k : ℕ) → k < 5 → (xs : List A) (z : A) → getD (payloads c points) (suc k) [] ≡ flatMap put xs → ((i : ℕ) → i < length xs → P (getD xs i z)) → (n H v : ℕ) → n ≡ length xs → H ≡ length (c .twin) → v ≡ vertices points → tabulate n (λ i. read (payloadAt (past 0 opening) (take k (heads H v)) + width * i)) ≡ xs
+  table-read : {A : Type 0} (width : ℕ) (put : A → List ℕ) (read : ℕ → A) (P : A → Type 0) → ((x : A) → length (put x) ≡ width)
+      → ((at : ℕ) (x : A) (rest : List ℕ) → P x → drop at f ≡ put x ++ rest → read at ≡ x)
+      → (k : ℕ) → k < 5 → (xs : List A) (z : A) → getD (payloads c points) (suc k) [] ≡ flatMap put xs
+      → ((i : ℕ) → i < length xs → P (getD xs i z)) → (n H v : ℕ) → n ≡ length xs → H ≡ length (c .twin) → v ≡ vertices points
+      → tabulate n (λ i. read (payloadAt (past 0 opening) (take k (heads H v)) + width * i)) ≡ xs
   unfolding payloadAt heads
   table-read width put read P w back k l xs z held cells n H v p q r =
       rw (p, q, r) (read-put width put f read P w back xs z _ _ cells (rw held at (payload-at f sized (suc k) 0 (omega arith) whole)))

@@ -37,7 +37,9 @@ pointsOf r = take (3 * getD (r .answer .values) 1 0) (r .points)
 written-file : (c : Tables) (points : List ℤ) (lent : List ℕ) → writeVerdict c points lent ≡ DONE → fileOf (writeFile c points lent) ≡ file c points
 written-file c points lent e = ap fileOf (write-done c points lent e) ∙ take-at (file c points) _ _ refl
 
-pub written-reads : (c : Tables) (points : List ℤ) (lentFile : List ℕ) → writeVerdict c points lentFile ≡ DONE → (lent : Tables) (lentPoints : List ℤ) → RoomFor (length (c .twin)) (vertices points) lent lentPoints → readFile (fileOf (writeFile c points lentFile)) lent lentPoints ≡ cageRead c points lent lentPoints
+pub written-reads : (c : Tables) (points : List ℤ) (lentFile : List ℕ) → writeVerdict c points lentFile ≡ DONE
+    → (lent : Tables) (lentPoints : List ℤ) → RoomFor (length (c .twin)) (vertices points) lent lentPoints
+    → readFile (fileOf (writeFile c points lentFile)) lent lentPoints ≡ cageRead c points lent lentPoints
 unfolding writeVerdict
 written-reads c points lentFile e lent lentPoints room =
     rw (written-file c points lentFile e) (read-back c points (accepted-fits c points (done-both (cageChecks c points 0) _ e .0)) lent lentPoints room)
@@ -53,7 +55,9 @@ module _ (f : List ℕ) (lent : Tables) (lentPoints : List ℤ) (e : readVerdict
   points-read : pointsOf (readFile f lent lentPoints) ≡ pointsIn f
   points-read = rw (read-done f lent lentPoints e, take-at (pointsIn f) _ _ (points-length f))
 
-  pub read-writes : Bytes f → (lentFile : List ℕ) → let r = readFile f lent lentPoints in writeVerdict (tablesOf r) (pointsOf r) lentFile ≡ DONE → writeFile (tablesOf r) (pointsOf r) lentFile ≡ record { answer = record { verdict = DONE; values = length f }; file = over f lentFile }
+  pub read-writes : Bytes f → (lentFile : List ℕ) → let r = readFile f lent lentPoints in
+      writeVerdict (tablesOf r) (pointsOf r) lentFile ≡ DONE
+      → writeFile (tablesOf r) (pointsOf r) lentFile ≡ record { answer = record { verdict = DONE; values = length f }; file = over f lentFile }
   read-writes b lentFile w =
       write-done _ _ lentFile w
       ∙ ap (λ g. record { answer = record { verdict = DONE; values = length g }; file = over g lentFile }) (ap₂ file tables-read points-read ∙ write-back f (read-sound f lent lentPoints e) b)

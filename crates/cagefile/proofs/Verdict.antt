@@ -4,7 +4,7 @@
 --     sound-length   such a file has 24 + 6H + 12V bytes, and 43,032 at most (`sound-at-most`)
 use Prim.Native.Nat.{ℕ, _+_, _*_, _≤_}
 use mathlib.Core.Path.{_≡_, refl, _∙_}
-use mathlib.Core.List.{List, _∷_}
+use mathlib.Core.List.{List, [], _∷_, _++_}
 use native.Mathlib.Omega.{arith}
 use lib.IntN.{ℤ}
 use lib.ListN.{length}
@@ -43,22 +43,21 @@ pub record RoomFor (H v : ℕ) (lent : Tables) (lentPoints : List ℤ) : Type 0 
   pub coordinates : 3 * v ≤ length lentPoints
 
 module _ (f : List ℕ) (lent : Tables) (lentPoints : List ℤ) (e : readVerdict f lent lentPoints ≡ DONE) where
-  pub read-sound : Sound f
+  parts : (first (fieldsChecks f 0 (opening ∷ heads (HIn f) (VIn f))) ≡ DONE) × (first (openingChecks f) ≡ DONE) × (first (shortTables (HIn f) lent ++ (short 4 (3 * VIn f) (length lentPoints) ∷ [])) ≡ DONE)
   unfolding readVerdict fieldsChecks
-  read-sound =
+  parts =
       let a = done-both (fieldChecks f 0 opening) _ e in
       let b = done-both (openingChecks f) _ (a .1) in
       let c = done-both (fieldsChecks f (past 0 opening) (heads (HIn f) (VIn f))) _ (b .1) in
-      let kept = opening-kept f (b .0) in
-      record { fields = first-more (fieldChecks f 0 opening) _ (a .0) ∙ c .0; form = kept .0; few-halfedges = kept .1; few-vertices = kept .2 }
+      (first-more (fieldChecks f 0 opening) _ (a .0) ∙ c .0, b .0, c .1)
+
+  pub read-sound : Sound f
+  read-sound = let kept = opening-kept f (parts .1) in record { fields = parts .0; form = kept .0; few-halfedges = kept .1; few-vertices = kept .2 }
 
   pub read-room : RoomFor (HIn f) (VIn f) lent lentPoints
-  unfolding readVerdict shortTables short
+  unfolding shortTables short
   read-room =
-      let a = done-both (fieldChecks f 0 opening) _ e in
-      let b = done-both (openingChecks f) _ (a .1) in
-      let c = done-both (fieldsChecks f (past 0 opening) (heads (HIn f) (VIn f))) _ (b .1) in
-      let twin = done-passes _ _ _ refl (c .1) in
+      let twin = done-passes _ _ _ refl (parts .2) in
       let vert = done-passes _ _ _ refl (twin .1) in
       let edge = done-passes _ _ _ refl (vert .1) in
       let points = done-passes _ _ _ refl (edge .1) in

@@ -52,6 +52,7 @@ done-passes test v vs n e =
     by-test test (λ t. absurd (eqb-false (v .number) 0 n (ap (λ u. u .number) (sym (refusal-given test v vs n t) ∙ e)))) (λ f. (f, sym (refusal-passes test v vs f) ∙ e))
 
 -- the same of a refusal with a place
-pub done-nowhere : (n : ℕ) (bad : ℕ → Bool) (at : ℕ → Verdict) (vs : List Verdict) → ((k : ℕ) → eqb (at k .number) 0 ≡ false) → first (givenAt n bad at ∷ vs) ≡ DONE → ((k : ℕ) → k < n → bad k ≡ false) × (first vs ≡ DONE)
+pub done-nowhere : (n : ℕ) (bad : ℕ → Bool) (at : ℕ → Verdict) (vs : List Verdict) → ((k : ℕ) → eqb (at k .number) 0 ≡ false)
+    → first (givenAt n bad at ∷ vs) ≡ DONE → ((k : ℕ) → k < n → bad k ≡ false) × (first vs ≡ DONE)
 unfolding givenAt
 done-nowhere n bad at vs z e = let d = done-passes (any n bad) (at (lowest n bad)) vs (z (lowest n bad)) e in (any-false bad n (d .0), d .1)

@@ -38,7 +38,10 @@ start : (at width : ℕ) → at + width * 0 ≡ at
 start at width = rw (mul-zero width, add-zero at)
 
 module _ {A B : Type 0} (width : ℕ) (put : A → List B) (l : List B) (read : ℕ → A) where
-  pub read-put : (P : A → Type 0) → ((x : A) → length (put x) ≡ width) → ((at : ℕ) (x : A) (rest : List B) → P x → drop at l ≡ put x ++ rest → read at ≡ x) → (xs : List A) (z : A) (rest : List B) (at : ℕ) → ((i : ℕ) → i < length xs → P (getD xs i z)) → drop at l ≡ flatMap put xs ++ rest → tabulate (length xs) (λ i. read (at + width * i)) ≡ xs
+  pub read-put : (P : A → Type 0) → ((x : A) → length (put x) ≡ width)
+      → ((at : ℕ) (x : A) (rest : List B) → P x → drop at l ≡ put x ++ rest → read at ≡ x)
+      → (xs : List A) (z : A) (rest : List B) (at : ℕ) → ((i : ℕ) → i < length xs → P (getD xs i z))
+      → drop at l ≡ flatMap put xs ++ rest → tabulate (length xs) (λ i. read (at + width * i)) ≡ xs
   unfolding flatMap
   read-put P w back [] z rest at p e = refl
   read-put P w back (x ∷ xs) z rest at p e =
@@ -52,7 +55,8 @@ module _ {A B : Type 0} (width : ℕ) (put : A → List B) (l : List B) (read : 
       there : drop (at + width) l ≡ flatMap put xs ++ rest
       there = sym (drop-drop width at l) ∙ ap (drop width) here ∙ drop-at (put x) _ width (w x)
 
-  pub put-read : ((at : ℕ) → at + width ≤ length l → put (read at) ≡ take width (drop at l)) → (n at : ℕ) → at + width * n ≤ length l → flatMap put (tabulate n (λ i. read (at + width * i))) ≡ take (width * n) (drop at l)
+  pub put-read : ((at : ℕ) → at + width ≤ length l → put (read at) ≡ take width (drop at l))
+      → (n at : ℕ) → at + width * n ≤ length l → flatMap put (tabulate n (λ i. read (at + width * i))) ≡ take (width * n) (drop at l)
   unfolding flatMap
   put-read back zero at r = rw (mul-zero width)
   put-read back (suc n) at r =
@@ -66,7 +70,8 @@ module _ {A B : Type 0} (width : ℕ) (put : A → List B) (l : List B) (read : 
       here : put (read (at + width * 0)) ≡ take width (drop at l)
       here = rw (start at width) (back at (omega (arith, wider)))
 
-      there : flatMap put (tabulate n (λ i. read (at + width + width * i))) ≡ take (width * n) (drop (at + width) l) → flatMap put (tabulate n (λ i. read (at + width * suc i))) ≡ take (width * n) (drop width (drop at l))
+      there : flatMap put (tabulate n (λ i. read (at + width + width * i))) ≡ take (width * n) (drop (at + width) l)
+          → flatMap put (tabulate n (λ i. read (at + width * suc i))) ≡ take (width * n) (drop width (drop at l))
       there ih =
           ap (flatMap put) (tabulate-ext n _ _ (λ k _. ap read (further at width k)))
           ∙ ih

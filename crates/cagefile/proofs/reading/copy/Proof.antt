@@ -89,13 +89,17 @@ same-length-4 c = search needs
 
 returns : tie.Need-returns
 returns c =
-    let s = c .before .before .before .before .before .before .before .before .before .before .before .before .before .before .before .before .before .before .before .before .before .args in
-    let h = c .before .before .before .before .before .before .before .before .before .before .before .before .before .before .before .before .halfedges-in .ensures .0 in
-    let v = c .before .before .before .before .before .before .before .before .before .before .before .before .before .before .before .vertices-in .ensures .0 in (
-      c .before .before .before .before .before .before .before .before .before .before .before .before .before .copy-twins .ensures ∙ ap (λ t. over t (s .twin .now)) (twins-are _ _ h),
-      c .before .before .before .before .before .before .before .before .before .copy-numbers .ensures ∙ ap (λ t. over t (s .vert .now)) (verts-are _ _ h),
-      c .before .before .before .before .before .copy-numbers2 .ensures ∙ ap (λ t. over t (s .edge .now)) (edges-are _ _ h),
-      c .before .copy-points .ensures ∙ ap (λ t. over t (s .points .now)) (points-are _ _ _ h v),
+    let a₄ = c .before in
+    let a₃ = a₄ .before .before .before .before in
+    let a₂ = a₃ .before .before .before .before in
+    let a₁ = a₂ .before .before .before .before in
+    let counted = a₁ .before .before in
+    let h = counted .before .halfedges-in .ensures .0 in
+    let s = counted .before .before .before .before .before .before .args in (
+      a₁ .copy-twins .ensures ∙ ap (λ t. over t (s .twin .now)) (twins-are _ _ h),
+      a₂ .copy-numbers .ensures ∙ ap (λ t. over t (s .vert .now)) (verts-are _ _ h),
+      a₃ .copy-numbers2 .ensures ∙ ap (λ t. over t (s .edge .now)) (edges-are _ _ h),
+      a₄ .copy-points .ensures ∙ ap (λ t. over t (s .points .now)) (points-are _ _ _ h (counted .vertices-in .ensures .0)),
     )
 
 pub copy-spec : {M : Type 1} → statement M

@@ -21,12 +21,16 @@ module _ (s : tie.Start) where
   abbrev lent : Tables
   lent = tables (s .args .twin .now) (s .args .vert .now) (s .args .edge .now)
 
+-- where the verdict is done
 module _ (c : tie.Else1) where
-  done : readVerdict (f (c .before .before .before .before .before .before .before .before .before .before .before)) (lent (c .before .before .before .before .before .before .before .before .before .before .before)) (c .before .before .before .before .before .before .before .before .before .before .before .args .points .now) ≡ DONE
+  abbrev start : tie.Start
+  start = c .before .before .before .before .before .before .before .before .before .before .before
+
+  done : readVerdict (f start) (lent start) (start .args .points .now) ≡ DONE
   unfolding readVerdict
   done = first-zero _ (rw (c .before .before .refusal .ensures) at (sym (c .before .number .ensures) ∙ c .if1 .left))
 
-  long : 24 + 6 * HIn (f (c .before .before .before .before .before .before .before .before .before .before .before)) + 12 * VIn (f (c .before .before .before .before .before .before .before .before .before .before .before)) ≤ length (f (c .before .before .before .before .before .before .before .before .before .before .before))
+  long : 24 + 6 * HIn (f start) + 12 * VIn (f start) ≤ length (f start)
   long = omega (arith, sound-length _ (read-sound _ _ _ done))
 
 refusal-requires : tie.Need-refusal-requires
@@ -57,7 +61,10 @@ vertices-in-requires : tie.Need-vertices-in-requires
 vertices-in-requires c κs = omega (arith, long (c .before))
 
 copy-requires : tie.Need-copy-requires
-copy-requires c κs = let d = c .before .before .before .before .before .before in let room = read-room _ _ _ (done d) in (omega (arith, long d), room .twin, room .vert, room .edge, room .coordinates)
+copy-requires c κs =
+    let d = c .before .before .before .before .before .before in
+    let room = read-room _ _ _ (done d) in
+    (omega (arith, long d), room .twin, room .vert, room .edge, room .coordinates)
 
 same-length-5 : tie.Need-same-length-5
 same-length-5 c = search needs
@@ -73,8 +80,11 @@ same-length-8 c = search needs
 
 returns-2 : tie.Need-returns-2
 returns-2 c =
-    let after = c .before .before .before .before .before .before .before .copy .ensures in
-    done-left _ _ _ (done (c .before .before .before .before .before .before .before .before .before .before .before .before .before .before)) _ _ (c .before .before .before .before .before .before .before .before .before .before .before .before .before .halfedges-in .ensures .0) (c .before .before .before .before .before .before .before .before .before .before .before .before .vertices-in .ensures .0) _ _ (λ i. tables (after .0 i) (after .1 i) (after .2 i)) (after .3)
+    let copied = c .before .before .before .before .before .before .before in
+    let counted = copied .before .before .before .before .before in
+    let after = copied .copy .ensures in
+    done-left _ _ _ (done (counted .before .before)) _ _ (counted .before .halfedges-in .ensures .0) (counted .vertices-in .ensures .0) _ _
+    (λ i. tables (after .0 i) (after .1 i) (after .2 i)) (after .3)
 
 pub read-spec : {M : Type 1} → statement M
 read-spec =
