@@ -5,9 +5,10 @@ use mathlib.Core.List.{List, [], _∷_, _++_}
 use lib.Dec.{eqb, ltb}
 use lib.IntN.{ℤ, pos, negsuc}
 use lib.ListN.{length, getD, take}
+use Rattle.cagefile.specs.declared.reading.Reading.{Reading}
 use Rattle.laws.specs.Below.{tabulate}
 use Rattle.halfedges.specs.Cage.{marker}
-use Rattle.halfedges.specs.Refusals.{Verdict, SHAPE, LIMIT, SHORT, FIELD, EXTRA, given, short, first, Said, said, filled}
+use Rattle.halfedges.specs.Refusals.{Verdict, SHAPE, LIMIT, SHORT, FIELD, EXTRA, told, given, short, first, Said, said, filled}
 use Rattle.halfedges.specs.Counts.{aboveLimit}
 use Rattle.connectivity.specs.Tables.{Tables, tables}
 use Rattle.connectivity.specs.Operations.{shortTables, filledTables}
@@ -108,3 +109,7 @@ readFile f lent lentPoints =
       lent = filledTables verdict (tables (twinsIn f) (vertsIn f) (edgesIn f)) lent;
       points = filled verdict (pointsIn f) lentPoints;
     }
+
+-- what the code's answer says
+abbrev pub reported : Reading → Said (List ℕ)
+reported r = record { verdict = told (r .answer); values = r .halfedges ∷ r .vertices ∷ [] }

@@ -1,1 +1,6 @@
-// The cage file: reading and writing. Definitions in specs/; the code comes to them.
+// The cage file: reading it into lent tables, and writing a cage's file.
+mod checks;
+mod fields;
+mod numbers;
+pub mod reading;
+pub mod writing;

@@ -5,7 +5,8 @@ use mathlib.Core.Logic.{_≢_}
 use mathlib.Core.Bool.{Bool, true, false}
 use mathlib.Core.List.{List, [], _∷_, _++_}
 use native.Mathlib.Decide.{ℕ-discrete}
-use borrow.Author.Tests.{eq-eqb, ne-eqb}
+use lib.Dec.{eqb}
+use borrow.Author.Tests.{eq-eqb, ne-eqb, eqb-false}
 use Rattle.laws.specs.Below.{any, lowest}
 use Rattle.laws.proofs.Tests.{by-test, any-false, false-any, true-any}
 use Rattle.laws.proofs.Lowest.{lowest-is}
@@ -104,3 +105,35 @@ module _ (ws : List Verdict) where
   pub passed-both : (vs : List Verdict) → AllPassed (vs ++ ws) → AllPassed vs × AllPassed ws
   passed-both [] a = (none, a)
   passed-both (v ∷ vs) (also z a) = let b = passed-both vs a in (also z (b .0), b .1)
+
+-- the same of lists that are done, and as the code goes, which tells the first list's answer v
+number : {v w : Verdict} → v ≡ w → v .number ≡ w .number
+number e = ap (λ u. u .number) e
+
+pub first-zero : (vs : List Verdict) → first vs .number ≡ 0 → first vs ≡ DONE
+first-zero vs z = all-passed-done (passed-all vs z)
+
+module _ (vs ws : List Verdict) where
+  pub first-more : first vs ≡ DONE → first (vs ++ ws) ≡ first ws
+  first-more e = first-passed-before ws (passed-all vs (number e))
+
+  pub done-both : first (vs ++ ws) ≡ DONE → (first vs ≡ DONE) × (first ws ≡ DONE)
+  done-both e = let a = passed-both ws vs (passed-all (vs ++ ws) (number e)) in (all-passed-done (a .0), all-passed-done (a .1))
+
+  pub first-stops : (v : Verdict) → v ≡ first vs → v .number ≢ 0 → v ≡ first (vs ++ ws)
+  first-stops v e r = e ∙ sym (first-refused-before ws vs (λ z. r (number e ∙ z)))
+
+  pub first-passes : (v : Verdict) → v ≡ first vs → v .number ≡ 0 → first (vs ++ ws) ≡ first ws
+  first-passes v e z = first-more (first-zero vs (number (sym e) ∙ z))
+
+pub done-passes : (test : Bool) (v : Verdict) (vs : List Verdict) → eqb (v .number) 0 ≡ false → first (given test v ∷ vs) ≡ DONE → (test ≡ false) × (first vs ≡ DONE)
+done-passes test v vs r e = by (passed-all _ (number e))
+  where
+    by : AllPassed (given test v ∷ vs) → (test ≡ false) × (first vs ≡ DONE)
+    by (also a b) = (not-given test v (eqb-false (v .number) 0 r) a, all-passed-done b)
+
+pub done-nowhere : (n : ℕ) (bad : ℕ → Bool) (at : ℕ → Verdict) (vs : List Verdict) → ((k : ℕ) → eqb (at k .number) 0 ≡ false) → first (givenAt n bad at ∷ vs) ≡ DONE → Clean n bad × (first vs ≡ DONE)
+done-nowhere n bad at vs r e = by (passed-all _ (number e))
+  where
+    by : AllPassed (givenAt n bad at ∷ vs) → Clean n bad × (first vs ≡ DONE)
+    by (also a b) = (passed-clean n bad at (λ k. eqb-false (at k .number) 0 (r k)) a, all-passed-done b)

@@ -14,5 +14,9 @@ pub mod Subsets
 pub mod Integers
 pub mod Steps
 pub mod Select
-pub mod Splices
+pub mod Middles
 pub mod Cases
+pub mod Chunks
+pub mod Splice
+pub mod Signs
+pub mod Filling

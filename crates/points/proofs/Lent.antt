@@ -9,7 +9,7 @@ use lib.IntN.{ℤ}
 use lib.ListN.{length, take, drop, length-drop}
 use lib.Seq.{take-add, drop-drop}
 use borrow.Rule.Slice.PartMut.{putMid, midOf}
-use Rattle.laws.proofs.Splices.{rest-whole, rest-none}
+use Rattle.laws.proofs.Middles.{rest-whole, rest-none}
 use Rattle.halfedges.specs.declared.table.HalfedgeTable.{HalfedgeTable}
 use Rattle.connectivity.specs.Tables.{Tables}
 use Rattle.points.specs.NextPoints.{nextPoints}

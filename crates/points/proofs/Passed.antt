@@ -16,7 +16,7 @@ use Rattle.laws.specs.Below.{count}
 use Rattle.laws.specs.Steps.{steps}
 use Rattle.laws.proofs.Cases.{cond-keeps}
 use Rattle.laws.proofs.Integers.{zero-of-natAbs}
-use Rattle.laws.proofs.Splices.{splice-ext}
+use Rattle.laws.proofs.Middles.{splice-ext}
 use Rattle.laws.proofs.Tabulate.{length-tabulate, getD-tabulate}
 use Rattle.halfedges.specs.declared.table.HalfedgeTable.{HalfedgeTable}
 use Rattle.connectivity.specs.Tables.{Tables, leaves}
