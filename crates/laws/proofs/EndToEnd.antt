@@ -2,8 +2,8 @@
 --     length-endToEnd                    how long they are
 --     starts-within, starts-before       a table that starts with cells is as long, and starts with the first of them
 --     part-of                            where one of the lists stands in the table
-use Prim.Native.Nat.{ℕ, zero, suc, _+_, _*_, _≤_, _<_}
-use mathlib.Core.Path.{_≡_, refl, sym, ap, _∙_}
+use Prim.Native.Nat.{ℕ, zero, suc, _*_, _≤_, _<_}
+use mathlib.Core.Path.{_≡_, sym, ap, _∙_}
 use mathlib.Core.List.{List, _++_}
 use native.Mathlib.Decide.{ℕ-discrete}
 use native.Mathlib.Nat.{mul-zero, mul-add, not-suc-le-zero}

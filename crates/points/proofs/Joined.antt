@@ -7,7 +7,6 @@ use native.Mathlib.Omega.{arith}
 use lib.Dec.{eqb}
 use lib.IntN.{ℤ, pos, natAbs, _+ℤ_, +ℤ-idr, +ℤ-assoc}
 use lib.ListN.{length}
-use Rattle.laws.specs.Below.{count}
 use Rattle.laws.specs.Steps.{steps}
 use Rattle.laws.proofs.Cases.{cond-keeps}
 use Rattle.laws.proofs.Integers.{natAbs-add, add-swap}
@@ -21,7 +20,7 @@ use Rattle.points.specs.Passes.{value, addPoint, Adds, addEnds, AddsEnds
 use Rattle.points.proofs.Range.{any-in-range}
 use Rattle.points.proofs.Ends.{leavingSum, endingSum, creaseSum, scan-more, creases-at-most}
 use Rattle.points.proofs.Only.{Only, only-none, only-on, only-wider, only-steps, value-cond}
-use Rattle.points.proofs.Added.{Holds, holds-own, holds-on, addPoint-only, addPoint-sum}
+use Rattle.points.proofs.Added.{Holds, holds-on, addPoint-only, addPoint-sum}
 use Rattle.points.proofs.Gathered.{far-below}
 
 module _ (n a b : ℕ) (l : List ℤ) (room : 7 * n ≤ length l) (la : a < n) (lb : b < n) where

@@ -1,6 +1,7 @@
 -- The passes over a level, each by the stores that it makes at one step. The part of the points that is lent starts with the
 -- level's own points, 3n cells for n vertices. The next level's follow. The new place of vertex v is at 3n + 3v, where its sums
 -- are kept till then; the point of edge e is at 6n + 3e; and the first n of the edges' cells keep the vertices' counts till then.
+-- Only the passes' own contracts cite these; the promise of a whole level, in Levels, does not.
 use Prim.Native.Nat.{ℕ, zero, suc, _+_, _*_, _≤_, _<_}
 use mathlib.Core.Path.{_≡_}
 use mathlib.Core.Bool.{Bool, cond, _||_}

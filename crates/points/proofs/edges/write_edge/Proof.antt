@@ -1,6 +1,6 @@
 -- `write_edge` goes by its twin: the three ways are those of its definition.
 use Prim.Native.Nat.{_+_, _*_, _<_}
-use mathlib.Core.Path.{_≡_, ap, _∙_}
+use mathlib.Core.Path.{ap, _∙_}
 use native.Mathlib.Omega.{arith}
 use lib.ListN.{length}
 use borrow.Author.Needs.{needs}
