@@ -13,7 +13,7 @@ use lib.Seq.{getD-set-same}
 use borrow.Author.Tests.{eq-eqb, ne-eqb}
 use Rattle.laws.specs.Below.{count}
 use Rattle.laws.specs.Steps.{steps}
-use Rattle.laws.proofs.Steps.{steps-more, steps-three}
+use Rattle.laws.proofs.Steps.{steps-more, steps-three-on}
 use Rattle.laws.proofs.Select.{count-before}
 use Rattle.halfedges.specs.Cage.{NEXT, cell}
 use Rattle.halfedges.specs.Corners.{corners}
@@ -133,6 +133,7 @@ module _ (vert : List ℕ) (n : ℕ) (cornered : Cornered vert n) (l : List ℤ)
             third = rw (two, one, next-first t, next-second t, next-third t) at (gathered-adds (3 * t + 2) b);
           }
 
-pub triangle-steps : (vert : List ℕ) (n : ℕ) (l : List ℤ) (t : ℕ) → addTriangle n (corners vert t) (steps (3 * t) (spoke vert n) l) ≡ steps (3 * (t + 1)) (spoke vert n) l
+-- a triangle's turn, from the corners that the corner question gave
+pub triangle-on : (vert : List ℕ) (n : ℕ) (l : List ℤ) (t : ℕ) {r : List ℕ} {y z : List ℤ} → r ≡ corners vert t → y ≡ steps (3 * t) (spoke vert n) l → z ≡ addTriangle n r y → z ≡ steps (3 * (t + 1)) (spoke vert n) l
 unfolding addTriangle spoke
-triangle-steps vert n l t = rw (steps-three (spoke vert n) l t, next-first t, next-second t, next-third t)
+triangle-on vert n l t {y = y} c e d = steps-three-on (spoke vert n) l t e (d ∙ ap (λ r. addTriangle n r y) c ∙ rw (next-first t, next-second t, next-third t))

@@ -1,5 +1,5 @@
 -- What the pass over the border leaves: `joined-only`, `joined-sum`; and that no step wraps, `joined-adds`. Assumes nothing.
-use Prim.Native.Nat.{ℕ, zero, suc, _+_, _*_, _≤_, _<_}
+use Prim.Native.Nat.{ℕ, zero, suc, _+_, _*_, _^_, _≤_, _<_}
 use mathlib.Core.Path.{_≡_, refl, sym, ap, _∙_}
 use mathlib.Core.Bool.{Bool, true, false, cond, _&&_}
 use mathlib.Core.List.{List}
@@ -130,7 +130,7 @@ module _ (twin vert : List ℕ) (n : ℕ) (cornered : Cornered vert n) (l : List
                 room = rw (only .long) wide;
                 fits = λ k lk.
                     rw (addPoint-sum n (cell vert i) (far vert i) m (omega (arith, wide, la)) (far vert i) k lk, only .other (3 * cell vert i + k) (λ p q. omega (arith, la)))
-                    (cond-keeps (λ z. natAbs (value m (3 * n + 3 * far vert i + k) +ℤ z) + natAbs (coordinate m k (cell vert i)) < 2147483648) (eqb (cell vert i) (far vert i))
+                    (cond-keeps (λ z. natAbs (value m (3 * n + 3 * far vert i + k) +ℤ z) + natAbs (coordinate m k (cell vert i)) < 2 ^ 31) (eqb (cell vert i) (far vert i))
                     (λ _. omega (arith, natAbs-add (value m (3 * n + 3 * far vert i + k)) (coordinate m k (far vert i)), sum-small (far vert i) k lb lk i le, at-point (far vert i) k lb lk, at-point (cell vert i) k la lk))
                     (λ _. omega (arith, natAbs-add (value m (3 * n + 3 * far vert i + k)) (pos 0), sum-small (far vert i) k lb lk i le, at-point (cell vert i) k la lk)));
               }

@@ -1,5 +1,5 @@
 -- `write_edge` goes by its twin: the three ways are those of its definition.
-use Prim.Native.Nat.{_+_, _*_, _<_}
+use Prim.Native.Nat.{_+_, _*_, _^_, _<_}
 use mathlib.Core.Path.{ap, _∙_}
 use native.Mathlib.Omega.{arith}
 use lib.ListN.{length}
@@ -13,7 +13,7 @@ use Rattle.points.proofs.edges.write_edge.Statement.{statement}
 use Rattle.points.proofs.edges.write_edge.Tie as tie
 
 module _ (s : tie.Start) where
-  has-place : (s .args .halfedge < length (s .args .edge .now)) × (6 * s .args .vertices + 3 * cell (s .args .edge .now) (s .args .halfedge) < 18446744073709551616)
+  has-place : (s .args .halfedge < length (s .args .edge .now)) × (6 * s .args .vertices + 3 * cell (s .args .edge .now) (s .args .halfedge) < 2 ^ 64)
   has-place = (omega (arith, s .pre .0 .edge-long), omega (arith, s .pre .0 .room (s .args .halfedge) (s .pre .1)))
 
   from-near : Near (s .args .points .now) (s .args .a)
