@@ -1,8 +1,8 @@
 -- Laws of lists laid end to end, and of cells in the middle of a list. Assumes nothing.
 --     splice-ext                   a list is another one with x at a place, cell by cell
 --     rest-whole, rest-none        all that comes from a place on, and nothing after it
-use Prim.Native.Nat.{ℕ, zero, suc, _+_, _-_, _≤_, _<_}
-use mathlib.Core.Path.{_≡_, refl, sym, ap, _∙_}
+use Prim.Native.Nat.{ℕ, _+_, _-_, _≤_, _<_}
+use mathlib.Core.Path.{_≡_, sym, ap, _∙_}
 use mathlib.Core.List.{List, [], _++_}
 use native.Mathlib.Decide.{decLt}
 use native.Mathlib.Nat.{le-refl}

@@ -1,4 +1,4 @@
--- Laws of steps taken one after the other: `steps-none`, `steps-more`, `steps-on`, `steps-three`, `steps-three-on`,
+-- Laws of steps taken one after the other: `steps-none`, `steps-more`, `steps-on`, `steps-end`, `steps-three`, `steps-three-on`,
 -- and induction, `steps-keep`. Assumes nothing.
 use Prim.Native.Nat.{ℕ, zero, suc, _+_, _*_, _≤_, _<_}
 use mathlib.Core.Path.{_≡_, refl, sym, ap, _∙_}
@@ -18,6 +18,10 @@ module _ {A : Type 0} (f : ℕ → A → A) (x : A) where
   -- a loop's turn
   pub steps-on : (n : ℕ) {y z : A} → y ≡ steps n f x → z ≡ f n y → z ≡ steps (n + 1) f x
   steps-on n e d = d ∙ ap (f n) e ∙ sym (steps-more n)
+
+  -- and its last
+  pub steps-end : {n m : ℕ} {y : A} → y ≡ steps n f x → n ≡ m → y ≡ steps m f x
+  steps-end e q = e ∙ ap (λ k. steps k f x) q
 
   -- three at once, as of a triangle's three halfedges
   pub steps-three : (n : ℕ) → steps (3 * (n + 1)) f x ≡ f (3 * n + 2) (f (3 * n + 1) (f (3 * n) (steps (3 * n) f x)))

@@ -1,7 +1,7 @@
 -- What adding a point to a vertex's sums leaves in every cell: `addPoint-only`, `addPoint-sum`; and the level's points are
 -- where they were, `holds-on`. Assumes nothing.
-use Prim.Native.Nat.{ℕ, _+_, _*_, _≤_, _<_}
-use mathlib.Core.Path.{_≡_, refl, sym, ap, _∙_}
+use Prim.Native.Nat.{ℕ, _+_, _*_, _^_, _≤_, _<_}
+use mathlib.Core.Path.{_≡_, sym, _∙_}
 use mathlib.Core.Bool.{cond}
 use mathlib.Core.List.{List}
 use native.Mathlib.Decide.{ℕ-discrete}
@@ -12,7 +12,7 @@ use lib.ListN.{length, take}
 use lib.Seq.{getD-take}
 use borrow.Author.Tests.{eq-eqb, ne-eqb}
 use Rattle.points.specs.NextPoints.{coordinate}
-use Rattle.points.specs.Passes.{value, put, addPoint, Adds}
+use Rattle.points.specs.Passes.{value, addPoint, Adds}
 use Rattle.points.proofs.Only.{Only, put-only, put-hit}
 
 -- the first n vertices' points in l are those of `points`
@@ -40,7 +40,7 @@ module _ (n a b : ℕ) (l : List ℤ) where
       by (no e) = rw (ne-eqb a v e, +ℤ-idr) (addPoint-only .other (3 * n + 3 * v + k) (λ p q. e (omega arith)))
 
 -- what adding one coordinate asks
-pub adds-one : (n a b : ℕ) (l : List ℤ) → Adds n a b l → (k : ℕ) → k < 3 → (3 * n + 3 * a + k < length l) × (3 * b + k < length l) × (natAbs (value l (3 * n + 3 * a + k)) + natAbs (value l (3 * b + k)) < 2147483648)
+pub adds-one : (n a b : ℕ) (l : List ℤ) → Adds n a b l → (k : ℕ) → k < 3 → (3 * n + 3 * a + k < length l) × (3 * b + k < length l) × (natAbs (value l (3 * n + 3 * a + k)) + natAbs (value l (3 * b + k)) < 2 ^ 31)
 adds-one n a b l adds k lk =
     let room = adds .room in
     let la = adds .in-a in

@@ -1,17 +1,17 @@
 -- The lowest halfedge that carries an edge is the one that has no twin or a higher one: `carrier-first`, `first-carrier`; it
 -- is in the table and carries the edge, `carrier-below`, `carrier-carries`. Assumes nothing.
 use Prim.Native.Nat.{ℕ, _≤_, _<_}
-use mathlib.Core.Path.{_≡_, refl, sym, _∙_}
+use mathlib.Core.Path.{_≡_, refl, _∙_}
 use mathlib.Core.Logic.{_⊎_, inl, inr}
-use mathlib.Core.Bool.{Bool, true, false, _||_, true≢false}
+use mathlib.Core.Bool.{true}
 use mathlib.Core.List.{List}
-use native.Mathlib.Decide.{ℕ-discrete, decLt}
+use native.Mathlib.Decide.{ℕ-discrete}
 use native.Mathlib.Omega.{arith}
-use lib.Dec.{eqb, ltb}
+use lib.Dec.{eqb}
 use lib.ListN.{length}
-use borrow.Author.Tests.{eq-eqb, ne-eqb, lt-ltb, le-ltb, eqb-true, ltb-true}
+use borrow.Author.Tests.{eq-eqb, ne-eqb, lt-ltb, eqb-true, ltb-true}
 use Rattle.laws.proofs.Lowest.{lowest-at-most, lowest-passes}
-use Rattle.halfedges.specs.Cage.{marker, cell, border}
+use Rattle.halfedges.specs.Cage.{marker, cell}
 use Rattle.points.specs.NextPoints.{carrier}
 use Rattle.points.specs.Relied.{Carried}
 use Rattle.points.specs.Passes.{lowest-carrier}

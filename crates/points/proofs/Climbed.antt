@@ -11,7 +11,7 @@ use lib.IntN.{ℤ}
 use lib.ListN.{length, take, drop, length-append, length-drop, take-append-drop}
 use lib.Seq.{length-take-le, take-at, drop-at, drop-append-add, drop-drop}
 use Rattle.laws.specs.Below.{endToEnd, sum}
-use Rattle.laws.proofs.Select.{sum-grows}
+use Rattle.laws.proofs.Sums.{sum-grows}
 use Rattle.laws.proofs.EndToEnd.{length-multiples, starts-within, part-of}
 use Rattle.laws.proofs.Tabulate.{length-tabulate}
 use Rattle.halfedges.specs.declared.table.HalfedgeTable.{HalfedgeTable}

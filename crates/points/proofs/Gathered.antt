@@ -2,7 +2,7 @@
 -- `gathered-adds`. Assumes nothing.
 use Prim.Native.Nat.{ℕ, zero, suc, _+_, _*_, _≤_, _<_}
 use mathlib.Core.Path.{_≡_, refl, sym, ap, _∙_}
-use mathlib.Core.Bool.{Bool, true, false, cond}
+use mathlib.Core.Bool.{cond}
 use mathlib.Core.List.{List}
 use native.Mathlib.Decide.{ℕ-discrete}
 use native.Mathlib.Omega.{arith}
@@ -13,7 +13,7 @@ use lib.Seq.{getD-set-same}
 use borrow.Author.Tests.{eq-eqb, ne-eqb}
 use Rattle.laws.specs.Below.{count}
 use Rattle.laws.specs.Steps.{steps}
-use Rattle.laws.proofs.Steps.{steps-more, steps-three}
+use Rattle.laws.proofs.Steps.{steps-more, steps-three-on}
 use Rattle.laws.proofs.Select.{count-before}
 use Rattle.halfedges.specs.Cage.{NEXT, cell}
 use Rattle.halfedges.specs.Corners.{corners}
@@ -22,7 +22,7 @@ use Rattle.points.specs.NextPoints.{coordinate, far}
 use Rattle.points.specs.Operations.{most-coordinate}
 use Rattle.points.specs.Relied.{most-corners, Cornered, InRange}
 use Rattle.points.specs.Passes.{value, addPoint, addSpoke, Adds, addTriangle, AddsTriangle, spoke, Cleared}
-use Rattle.points.proofs.Triangles.{next-below, next-first, next-second, next-third}
+use Rattle.halfedges.proofs.Triangle.{next-below, next-0, next-1, next-2}
 use Rattle.points.proofs.Ends.{spokeSum, scan-more, spokes-at-most, corners-counted}
 use Rattle.points.proofs.Range.{any-in-range}
 use Rattle.points.proofs.Only.{Only, only-on, only-wider, only-set, only-steps}
@@ -53,7 +53,7 @@ module _ (n a b : ℕ) (l : List ℤ) (room : 7 * n ≤ length l) (la : a < n) w
           ∙ addPoint-only n a b l .other (6 * n + v) (λ p q. omega arith))
 
 pub far-below : (vert : List ℕ) (n : ℕ) → Cornered vert n → (h : ℕ) → h < length vert → far vert h < n
-far-below vert n cornered h l = cornered .below (NEXT h) (next-below h (length vert) (cornered .whole) l)
+far-below vert n cornered h l = cornered .below (NEXT h) (next-below (cornered .whole) l)
 
 module _ (vert : List ℕ) (n : ℕ) (cornered : Cornered vert n) (l : List ℤ) (room : 7 * n ≤ length l) where
   pub gathered-only : (i : ℕ) → i ≤ length vert → Only (3 * n) (7 * n) l (steps i (spoke vert n) l)
@@ -128,11 +128,12 @@ module _ (vert : List ℕ) (n : ℕ) (cornered : Cornered vert n) (l : List ℤ)
           let one : steps (3 * t + 1) (spoke vert n) l ≡ spoke vert n (3 * t) (steps (3 * t) (spoke vert n) l) = steps-more (spoke vert n) l (3 * t) in
           let two : steps (3 * t + 2) (spoke vert n) l ≡ spoke vert n (3 * t + 1) (steps (3 * t + 1) (spoke vert n) l) = ap (λ i. steps i (spoke vert n) l) e ∙ steps-more (spoke vert n) l (3 * t + 1) in
           record {
-            first = rw (next-first t) at (gathered-adds (3 * t) (omega arith));
-            second = rw (one, next-first t, next-second t) at (gathered-adds (3 * t + 1) (omega arith));
-            third = rw (two, one, next-first t, next-second t, next-third t) at (gathered-adds (3 * t + 2) b);
+            first = rw (next-0 t) at (gathered-adds (3 * t) (omega arith));
+            second = rw (one, next-0 t, next-1 t) at (gathered-adds (3 * t + 1) (omega arith));
+            third = rw (two, one, next-0 t, next-1 t, next-2 t) at (gathered-adds (3 * t + 2) b);
           }
 
-pub triangle-steps : (vert : List ℕ) (n : ℕ) (l : List ℤ) (t : ℕ) → addTriangle n (corners vert t) (steps (3 * t) (spoke vert n) l) ≡ steps (3 * (t + 1)) (spoke vert n) l
+-- a triangle's turn, from the corners that the corner question gave
+pub triangle-on : (vert : List ℕ) (n : ℕ) (l : List ℤ) (t : ℕ) {r : List ℕ} {y z : List ℤ} → r ≡ corners vert t → y ≡ steps (3 * t) (spoke vert n) l → z ≡ addTriangle n r y → z ≡ steps (3 * (t + 1)) (spoke vert n) l
 unfolding addTriangle spoke
-triangle-steps vert n l t = rw (steps-three (spoke vert n) l t, next-first t, next-second t, next-third t)
+triangle-on vert n l t {y = y} c e d = steps-three-on (spoke vert n) l t e (d ∙ ap (λ r. addTriangle n r y) c ∙ rw (next-0 t, next-1 t, next-2 t))

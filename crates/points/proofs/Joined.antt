@@ -1,5 +1,5 @@
 -- What the pass over the border leaves: `joined-only`, `joined-sum`; and that no step wraps, `joined-adds`. Assumes nothing.
-use Prim.Native.Nat.{ℕ, zero, suc, _+_, _*_, _≤_, _<_}
+use Prim.Native.Nat.{ℕ, zero, suc, _+_, _*_, _^_, _≤_, _<_}
 use mathlib.Core.Path.{_≡_, refl, sym, ap, _∙_}
 use mathlib.Core.Bool.{Bool, true, false, cond, _&&_}
 use mathlib.Core.List.{List}
@@ -7,11 +7,10 @@ use native.Mathlib.Omega.{arith}
 use lib.Dec.{eqb}
 use lib.IntN.{ℤ, pos, natAbs, _+ℤ_, +ℤ-idr, +ℤ-assoc}
 use lib.ListN.{length}
-use Rattle.laws.specs.Below.{count}
 use Rattle.laws.specs.Steps.{steps}
 use Rattle.laws.proofs.Cases.{cond-keeps}
 use Rattle.laws.proofs.Integers.{natAbs-add, add-swap}
-use Rattle.laws.proofs.Select.{count-at-most}
+use Rattle.laws.proofs.Select.{count-grows}
 use Rattle.halfedges.specs.Cage.{cell, border}
 use Rattle.connectivity.specs.Tables.{leaves}
 use Rattle.points.specs.NextPoints.{coordinate, far}
@@ -21,7 +20,7 @@ use Rattle.points.specs.Passes.{value, addPoint, Adds, addEnds, AddsEnds
 use Rattle.points.proofs.Range.{any-in-range}
 use Rattle.points.proofs.Ends.{leavingSum, endingSum, creaseSum, scan-more, creases-at-most}
 use Rattle.points.proofs.Only.{Only, only-none, only-on, only-wider, only-steps, value-cond}
-use Rattle.points.proofs.Added.{Holds, holds-own, holds-on, addPoint-only, addPoint-sum}
+use Rattle.points.proofs.Added.{Holds, holds-on, addPoint-only, addPoint-sum}
 use Rattle.points.proofs.Gathered.{far-below}
 
 module _ (n a b : ℕ) (l : List ℤ) (room : 7 * n ≤ length l) (la : a < n) (lb : b < n) where
@@ -94,8 +93,8 @@ module _ (twin vert : List ℕ) (n : ℕ) (cornered : Cornered vert n) (l : List
             creases-at-most twin vert v points k most-coordinate (small k) i,
             bordered .one v lv,
             bordered .pair v lv,
-            count-at-most (borderLeaves twin vert v) i (length vert) b,
-            count-at-most (borderEnds twin vert v) i (length vert) b,
+            count-grows (borderLeaves twin vert v) i (length vert) b,
+            count-grows (borderEnds twin vert v) i (length vert) b,
           ))
 
       pub joined-adds : (i : ℕ) → i < length vert → AddsEnds n (cell vert i) (far vert i) (steps i (addBorder twin vert n) l)
@@ -131,7 +130,7 @@ module _ (twin vert : List ℕ) (n : ℕ) (cornered : Cornered vert n) (l : List
                 room = rw (only .long) wide;
                 fits = λ k lk.
                     rw (addPoint-sum n (cell vert i) (far vert i) m (omega (arith, wide, la)) (far vert i) k lk, only .other (3 * cell vert i + k) (λ p q. omega (arith, la)))
-                    (cond-keeps (λ z. natAbs (value m (3 * n + 3 * far vert i + k) +ℤ z) + natAbs (coordinate m k (cell vert i)) < 2147483648) (eqb (cell vert i) (far vert i))
+                    (cond-keeps (λ z. natAbs (value m (3 * n + 3 * far vert i + k) +ℤ z) + natAbs (coordinate m k (cell vert i)) < 2 ^ 31) (eqb (cell vert i) (far vert i))
                     (λ _. omega (arith, natAbs-add (value m (3 * n + 3 * far vert i + k)) (coordinate m k (far vert i)), sum-small (far vert i) k lb lk i le, at-point (far vert i) k lb lk, at-point (cell vert i) k la lk))
                     (λ _. omega (arith, natAbs-add (value m (3 * n + 3 * far vert i + k)) (pos 0), sum-small (far vert i) k lb lk i le, at-point (cell vert i) k la lk)));
               }

@@ -1,19 +1,18 @@
 -- A level's part of the table, lent: the part asks what the whole does (`ready-part`), and put back it is the whole with the
 -- next level (`part-back`). Assumes nothing.
-use Prim.Native.Nat.{ℕ, _+_, _-_, _*_}
-use mathlib.Core.Path.{_≡_, sym, ap, _∙_}
-use mathlib.Core.List.{List, _++_, append-assoc, append-nil}
+use Prim.Native.Nat.{ℕ, _-_, _*_}
+use mathlib.Core.Path.{_≡_}
+use mathlib.Core.List.{List, append-assoc, append-nil}
 use native.Mathlib.Nat.{zero-add, add-assoc}
 use native.Mathlib.Omega.{arith}
 use lib.IntN.{ℤ}
-use lib.ListN.{length, take, drop, length-drop}
+use lib.ListN.{length, length-drop}
 use lib.Seq.{take-add, drop-drop}
 use borrow.Rule.Slice.PartMut.{putMid, midOf}
 use Rattle.laws.proofs.Middles.{rest-whole, rest-none}
 use Rattle.halfedges.specs.declared.table.HalfedgeTable.{HalfedgeTable}
 use Rattle.connectivity.specs.Tables.{Tables}
-use Rattle.points.specs.NextPoints.{nextPoints}
-use Rattle.points.specs.Levels.{pointsAt, nextEnd, withNext, Ready}
+use Rattle.points.specs.Levels.{withNext, Ready}
 
 module _ (t : HalfedgeTable) (c : Tables) (at : ℕ) (points : List ℤ) where
   pub ready-part : Ready t c at points → Ready t c 0 (midOf at (length points - at) points)

@@ -1,5 +1,4 @@
 pub mod Numerators
-pub mod Triangles
 pub mod Ends
 pub mod Only
 pub mod Range

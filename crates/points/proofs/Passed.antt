@@ -1,14 +1,14 @@
 -- The six passes, one after the other, leave the next level's points: `passed`. What each asks of the table that the one before
 -- left: `gathers`, `joins`, `settles`, `writes`. Assumes nothing.
 use Prim.Native.Nat.{ℕ, _+_, _-_, _*_, _/_, _%_, _≤_, _<_}
-use mathlib.Core.Path.{_≡_, refl, sym, ap, _∙_, subst}
+use mathlib.Core.Path.{_≡_, refl, sym, ap, _∙_}
 use mathlib.Core.Logic.{_≢_}
-use mathlib.Core.Bool.{Bool, true, false, cond}
+use mathlib.Core.Bool.{cond}
 use mathlib.Core.List.{List, _++_, map}
 use native.Mathlib.Decide.{ℕ-discrete, decLt}
 use native.Mathlib.Nat.{le-refl, zero-add}
 use native.Mathlib.Omega.{arith}
-use lib.Dec.{eqb, ltb}
+use lib.Dec.{eqb}
 use lib.IntN.{ℤ, pos, natAbs, _+ℤ_, +ℤ-idl, +ℤ-idr}
 use lib.ListN.{length, take, drop}
 use borrow.Author.Tests.{eq-eqb, ne-eqb, lt-ltb, le-ltb}
@@ -19,14 +19,13 @@ use Rattle.laws.proofs.Integers.{zero-of-natAbs}
 use Rattle.laws.proofs.Middles.{splice-ext}
 use Rattle.laws.proofs.Tabulate.{length-tabulate, getD-tabulate}
 use Rattle.halfedges.specs.declared.table.HalfedgeTable.{HalfedgeTable}
-use Rattle.connectivity.specs.Tables.{Tables, leaves}
-use Rattle.points.specs.PointRules.{V2, V3}
-use Rattle.points.specs.NextPoints.{coordinate, total, corners, spokeEnds, creaseEnds, vertexPoint, edgePoint, carrier, newPoint, nextPoints}
+use Rattle.connectivity.specs.Tables.{Tables}
+use Rattle.points.specs.NextPoints.{coordinate, total, corners, spokeEnds, creaseEnds, vertexPoint, newPoint, nextPoints}
 use Rattle.points.specs.Operations.{most-coordinate}
-use Rattle.points.specs.Relied.{most-corners, Cornered, Bordered, borderLeaves, borderEnds, Relied, InRange}
+use Rattle.points.specs.Relied.{most-corners, Cornered, Bordered, borderLeaves, Relied}
 use Rattle.points.specs.Passes.{value, Laid, clearCell, Cleared, spoke, clearBorder, Summed, addBorder, settled, Settles, settle, SettlesAt, Edged, putEdge}
 use Rattle.points.specs.Levels.{Ready, withNext}
-use Rattle.points.proofs.Ends.{spokeSum, spokes-are, spokes-at-most, corners-counted, creaseSum, creases-are, creases-at-most, creases-counted}
+use Rattle.points.proofs.Ends.{spokes-are, spokes-at-most, corners-counted, creaseSum, creases-are, creases-at-most, creases-counted}
 use Rattle.points.proofs.Range.{any-in-range}
 use Rattle.points.proofs.Only.{Only, only-on, only-wider, only-take}
 use Rattle.points.proofs.Added.{Holds, holds-own, holds-on}

@@ -1,7 +1,6 @@
 -- Rule 8 holds at every level: from a level's points in range the next level's are (`next-in-range`), and so are those of
 -- every depth (`levels-in-range`). Assumes nothing.
 use Prim.Native.Nat.{ℕ, zero, suc, _+_, _*_, _/_, _%_, _≤_, _<_}
-use mathlib.Core.Path.{_≡_}
 use mathlib.Core.List.{List, map}
 use native.Mathlib.Decide.{decLt}
 use native.Mathlib.Omega.{arith}

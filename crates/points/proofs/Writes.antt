@@ -1,20 +1,18 @@
 -- One step of the pass over the edges: what each of its three ways leaves (`border-way`, `no-way`, `inner-way`), what it reads
 -- (`near`), and that the next step finds the tables as it did (`edged-step`, `edged-steps`). Assumes nothing.
 use Prim.Native.Nat.{ℕ, _+_, _*_, _≤_, _<_}
-use mathlib.Core.Path.{_≡_, refl, sym, ap, _∙_}
+use mathlib.Core.Path.{_≡_, _∙_}
 use mathlib.Core.Logic.{_≢_}
-use mathlib.Core.Bool.{cond}
 use mathlib.Core.List.{List}
 use native.Mathlib.Omega.{arith}
-use lib.Dec.{ltb}
-use lib.IntN.{ℤ, pos, natAbs}
+use lib.IntN.{ℤ}
 use lib.ListN.{length, take}
 use borrow.Author.Tests.{eq-eqb, ne-eqb, lt-ltb, le-ltb}
 use Rattle.laws.specs.Steps.{steps}
 use Rattle.laws.proofs.Steps.{steps-keep}
 use Rattle.laws.proofs.Cases.{cond-keeps}
 use Rattle.halfedges.specs.Cage.{PREV, marker, cell}
-use Rattle.points.specs.NextPoints.{coordinate, far, edgePoint}
+use Rattle.points.specs.NextPoints.{far, edgePoint}
 use Rattle.points.specs.Passes.{put, lowest-carrier, Edged, Near, borderPoint, innerPoint, putEdge}
 use Rattle.points.proofs.Range.{any-in-range}
 use Rattle.points.proofs.Only.{Only, only-none, only-wider, only-take, put-only, put-same}

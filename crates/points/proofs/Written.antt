@@ -1,12 +1,12 @@
 -- What the pass over the edges leaves: `written-only`, `written-is`. Assumes nothing.
 use Prim.Native.Nat.{ℕ, zero, suc, _+_, _*_, _≤_, _<_}
-use mathlib.Core.Path.{_≡_, refl, sym, ap, _∙_}
+use mathlib.Core.Path.{_≡_, _∙_}
 use mathlib.Core.Bool.{true}
 use mathlib.Core.List.{List}
 use native.Mathlib.Decide.{ℕ-discrete}
 use native.Mathlib.Nat.{not-suc-le-zero}
 use native.Mathlib.Omega.{arith}
-use lib.IntN.{ℤ, pos}
+use lib.IntN.{ℤ}
 use lib.ListN.{length}
 use borrow.Author.Tests.{eq-eqb, ne-eqb}
 use Rattle.laws.specs.Steps.{steps}
@@ -15,11 +15,11 @@ use Rattle.halfedges.specs.Cage.{PREV, marker, cell}
 use Rattle.points.specs.NextPoints.{coordinate, far, edgePoint, carrier}
 use Rattle.points.specs.Relied.{Carried}
 use Rattle.points.specs.Passes.{value, lowest-carrier, Edged, putEdge}
-use Rattle.points.proofs.Triangles.{previous-below}
+use Rattle.halfedges.proofs.Triangle.{prev-below}
 use Rattle.points.proofs.Only.{Only, only-none, only-wider, only-steps, put-only, put-hit}
 use Rattle.points.proofs.Added.{Holds, holds-on}
 use Rattle.points.proofs.Gathered.{far-below}
-use Rattle.points.proofs.Carriers.{carrier-carries, carrier-below, carrier-first, first-carrier}
+use Rattle.points.proofs.Carriers.{carrier-carries, carrier-first, first-carrier}
 
 module _ (twin vert edge : List ℕ) (n : ℕ) where
   -- an edge's point from the level's points, wherever they stand
@@ -34,7 +34,7 @@ module _ (twin vert edge : List ℕ) (n : ℕ) where
       next = holds .same _ k (far-below vert n (g .cornered) h b) lk
 
       opposite : (i : ℕ) → i < length vert → coordinate m k (cell vert (PREV i)) ≡ coordinate points k (cell vert (PREV i))
-      opposite i l = holds .same _ k (g .cornered .below (PREV i) (previous-below i (length vert) (g .cornered .whole) l)) lk
+      opposite i l = holds .same _ k (g .cornered .below (PREV i) (prev-below (g .cornered .whole) l)) lk
 
       by : Dec (cell twin h ≡ marker) → edgePoint twin vert m h k ≡ edgePoint twin vert points h k
       by (yes q) = rw (eq-eqb _ marker q, a, next)

@@ -1,7 +1,8 @@
 -- The passes over a level, each by the stores that it makes at one step. The part of the points that is lent starts with the
 -- level's own points, 3n cells for n vertices. The next level's follow. The new place of vertex v is at 3n + 3v, where its sums
 -- are kept till then; the point of edge e is at 6n + 3e; and the first n of the edges' cells keep the vertices' counts till then.
-use Prim.Native.Nat.{ℕ, zero, suc, _+_, _*_, _≤_, _<_}
+-- Only the passes' own contracts cite these; the promise of a whole level, in Levels, does not.
+use Prim.Native.Nat.{ℕ, zero, suc, _+_, _*_, _^_, _≤_, _<_}
 use mathlib.Core.Path.{_≡_}
 use mathlib.Core.Bool.{Bool, cond, _||_}
 use mathlib.Core.List.{List}
@@ -51,7 +52,7 @@ pub record Adds (n a b : ℕ) (l : List ℤ) : Type 0 where
   pub in-a : a < n
   pub in-b : b < n
   pub room : 7 * n ≤ length l
-  pub fits : (k : ℕ) → k < 3 → natAbs (value l (3 * n + 3 * a + k)) + natAbs (coordinate l k b) < 2147483648
+  pub fits : (k : ℕ) → k < 3 → natAbs (value l (3 * n + 3 * a + k)) + natAbs (coordinate l k b) < 2 ^ 31
 
 -- a spoke from a to b: b's point is added to a's sums, and one to its count
 unfoldable pub addSpoke : ℕ → ℕ → ℕ → List ℤ → List ℤ

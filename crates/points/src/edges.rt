@@ -1,6 +1,6 @@
 // The last pass over a level: every edge's point, from the lowest halfedge that carries the edge.
 ghost use mathlib.Core.Path.{_≡_};
-ghost use Prim.Native.Nat.{_+_, _*_, _<_};
+ghost use Prim.Native.Nat.{_+_, _*_, _^_, _<_};
 ghost use lib.ListN.{length};
 ghost use Rattle.laws.specs.Steps.{steps};
 ghost use Rattle.halfedges.specs.Cage.{PREV, cell};
@@ -59,7 +59,7 @@ fn put_inner_edge(points: &mut [i32], to: usize, a: usize, b: usize, c: usize, d
 
 // Where the point of a halfedge's edge goes.
 fn place_of(edge: &[u32], vertices: usize, halfedge: usize) -> usize
-    requires { ⌜ (halfedge < length (now edge)) × (6 * vertices + 3 * cell (now edge) halfedge < 18446744073709551616) ⌝ }
+    requires { ⌜ (halfedge < length (now edge)) × (6 * vertices + 3 * cell (now edge) halfedge < 2 ^ 64) ⌝ }
     ensures { λ r. ⌜ r ≡ 6 * vertices + 3 * cell (now (edge .entry)) halfedge ⌝ }
 {
     let number = edge[halfedge] as usize;
@@ -119,7 +119,7 @@ fn write_triangle(
 }
 
 // Every edge's point, triangle by triangle.
-pub fn write(twin: &[u32], vert: &[u32], edge: &[u32], points: &mut [i32], vertices: usize)
+pub fn write_edges(twin: &[u32], vert: &[u32], edge: &[u32], points: &mut [i32], vertices: usize)
     requires { ⌜ Edged (now twin) (now vert) (now edge) vertices (now points) ⌝ }
     ensures { λ _. ⌜ now (points .exit) ≡ steps (length (now (vert .entry))) (putEdge (now (twin .entry)) (now (vert .entry)) (now (edge .entry)) vertices) (now (points .entry)) ⌝ }
 {

@@ -4,10 +4,10 @@ ghost use Rattle.connectivity.specs.Tables.{tables};
 ghost use Rattle.points.specs.Levels.{Ready, withNext};
 use crate::border::add_border;
 use crate::border::clear_border;
-use crate::edges::write;
-use crate::spokes::clear;
-use crate::spokes::gather;
-use crate::vertices::settle;
+use crate::edges::write_edges;
+use crate::spokes::add_spokes;
+use crate::spokes::clear_sums;
+use crate::vertices::settle_vertices;
 use halfedges::table::HalfedgeTable;
 
 // The next level's points, in a table that starts with the level's own.
@@ -16,12 +16,12 @@ fn next_points(table: HalfedgeTable, twin: &[u32], vert: &[u32], edge: &[u32], p
     ensures { λ _. ⌜ now (points .exit) ≡ withNext table (tables (now (twin .entry)) (now (vert .entry)) (now (edge .entry))) 0 (now (points .entry)) ⌝ }
 {
     let vertices = table.vertices;
-    clear(&mut *points, vertices);
-    gather(vert, &mut *points, vertices);
+    clear_sums(&mut *points, vertices);
+    add_spokes(vert, &mut *points, vertices);
     clear_border(twin, vert, &mut *points, vertices);
     add_border(twin, vert, &mut *points, vertices);
-    settle(&mut *points, vertices);
-    write(twin, vert, edge, &mut *points, vertices);
+    settle_vertices(&mut *points, vertices);
+    write_edges(twin, vert, edge, &mut *points, vertices);
 }
 
 // The next level's points, in a table where the level's own start at a cell.

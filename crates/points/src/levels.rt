@@ -1,7 +1,7 @@
 // The points of all levels, end to end after the cage's.
 ghost use mathlib.Core.Path.{_≡_};
 ghost use Prim.Native.Nat.{_+_, _≤_};
-ghost use lib.ListN.{length, take, drop};
+ghost use lib.ListN.{length};
 ghost use Rattle.connectivity.specs.Tables.{tables};
 ghost use Rattle.points.specs.Levels.{Ready, withNext, ReadyLevels, withLevels, tablesAt};
 use crate::level::next_level;

@@ -10,7 +10,7 @@ use crate::cells::sum_of;
 use halfedges::corners::corners_of;
 
 // The cells of the sums and the counts are made 0.
-pub fn clear(points: &mut [i32], vertices: usize)
+pub fn clear_sums(points: &mut [i32], vertices: usize)
     requires { ⌜ 7 * vertices ≤ length (now points) ⌝ }
     ensures { λ _. ⌜ now (points .exit) ≡ steps (4 * vertices) (clearCell vertices) (now (points .entry)) ⌝ }
 {
@@ -60,8 +60,8 @@ fn add_triangle(points: &mut [i32], vertices: usize, corners: [u32; 3])
     add_spoke(&mut *points, vertices, c, a);
 }
 
-// The spokes of all halfedges, triangle by triangle.
-pub fn gather(vert: &[u32], points: &mut [i32], vertices: usize)
+// The spokes of every halfedge, triangle by triangle.
+pub fn add_spokes(vert: &[u32], points: &mut [i32], vertices: usize)
     requires { ⌜ (Cornered (now vert) vertices) × (Laid vertices (now points)) × (Cleared vertices (now points)) ⌝ }
     ensures { λ _. ⌜ now (points .exit) ≡ steps (length (now (vert .entry))) (spoke (now (vert .entry)) vertices) (now (points .entry)) ⌝ }
 {

@@ -4,7 +4,7 @@ ghost use Prim.Native.Nat.{ℕ, _+_, _*_, _≤_, _<_};
 ghost use lib.ListN.{length};
 ghost use Rattle.laws.specs.Steps.{steps};
 ghost use Rattle.points.specs.NextPoints.{coordinate};
-ghost use Rattle.points.specs.Passes.{value, settled, Settles, settle as Passes·settle, SettlesAt};
+ghost use Rattle.points.specs.Passes.{value, settled, Settles, settle, SettlesAt};
 use crate::cells::put_point;
 use crate::rules::border_vertex;
 use crate::rules::inner_vertex;
@@ -41,7 +41,7 @@ fn new_coordinate(points: &[i32], vertices: usize, vertex: usize, k: usize) -> i
 // A vertex's new place, where its sums were.
 fn settle_vertex(points: &mut [i32], vertices: usize, vertex: usize)
     requires { ⌜ (vertex < vertices) × (7 * vertices ≤ length (now points)) × (SettlesAt vertices vertex (now points)) ⌝ }
-    ensures { λ _. ⌜ now (points .exit) ≡ Passes·settle vertices vertex (now (points .entry)) ⌝ }
+    ensures { λ _. ⌜ now (points .exit) ≡ settle vertices vertex (now (points .entry)) ⌝ }
 {
     let x = new_coordinate(&*points, vertices, vertex, 0);
     let y = new_coordinate(&*points, vertices, vertex, 1);
@@ -51,9 +51,9 @@ fn settle_vertex(points: &mut [i32], vertices: usize, vertex: usize)
 }
 
 // Every vertex's.
-pub fn settle(points: &mut [i32], vertices: usize)
+pub fn settle_vertices(points: &mut [i32], vertices: usize)
     requires { ⌜ (7 * vertices ≤ length (now points)) × ((v : ℕ) → v < vertices → SettlesAt vertices v (now points)) ⌝ }
-    ensures { λ _. ⌜ now (points .exit) ≡ steps vertices (Passes·settle vertices) (now (points .entry)) ⌝ }
+    ensures { λ _. ⌜ now (points .exit) ≡ steps vertices (settle vertices) (now (points .entry)) ⌝ }
 {
     let mut vertex = 0;
     while vertex < vertices {

@@ -1,14 +1,14 @@
 -- What the two arms of the floor division compute: `above-is`, `below-is`, `floor-below`, `floor-above`. Assumes nothing.
-use Prim.Native.Nat.{ℕ, zero, suc, _/_, _^_, _<_}
-use mathlib.Core.Path.{_≡_, refl, sym, ap, _∙_}
+use Prim.Native.Nat.{ℕ, zero, suc, _/_, _<_}
+use mathlib.Core.Path.{_≡_, refl, ap, _∙_}
 use mathlib.Core.Bool.{true, false, true≢false}
 use native.Mathlib.Nat.{zero-add, div-le-self, lt-of-le-of-lt, not-suc-le-zero}
 use lib.Dec.{ltb→lt}
-use lib.IntN.{ℤ, pos, negsuc, natAbs, _-ℤ_, +ℤ-comm, +ℤ-idr, -ℤ-one}
+use lib.IntN.{ℤ, pos, negsuc, _-ℤ_, +ℤ-comm, +ℤ-idr, -ℤ-one}
 use lib.Signed.{mag, ltZ, quotZ, _<ℤ_}
 use borrow.Author.Tests.{ltb-true}
 use mir.Syntax.{Width}
-use mir.Val.{SFits, ofZ, hbits}
+use mir.Val.{SFits, ofZ}
 use Rattle.rounding.specs.Rounding.{floor}
 
 -- −1 − n of a negative n

@@ -1,10 +1,10 @@
 -- Laws of rounding: `round-at-most`, `round-multiple`. Assumes nothing.
 use Prim.Native.Nat.{ℕ, zero, suc, _+_, _-_, _*_, _/_, _≤_, _<_}
-use mathlib.Core.Path.{_≡_, refl, sym, ap, _∙_}
+use mathlib.Core.Path.{_≡_, refl, ap}
 use native.Mathlib.Decide.{decLe}
-use native.Mathlib.Nat.{mul-assoc, mul-comm, mul-zero, add-mul, one-mul, suc-mul, div-lt-iff-lt-mul, div-eq-of-lt, div-eq-of-lt-le}
+use native.Mathlib.Nat.{mul-assoc, mul-comm, add-mul, one-mul, suc-mul, div-lt-iff-lt-mul, div-eq-of-lt, div-eq-of-lt-le}
 use native.Mathlib.Omega.{arith}
-use lib.IntN.{ℤ, pos, negsuc, negℤ, natAbs, subℕ, _+ℤ_, _*ℤ_}
+use lib.IntN.{ℤ, pos, negsuc, negℤ, natAbs, subℕ, _*ℤ_}
 use Rattle.laws.proofs.Integers.{subℕ-pos, subℕ-neg, neg-add}
 use Rattle.rounding.specs.Rounding.{floor, round}
 

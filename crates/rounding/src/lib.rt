@@ -1,6 +1,6 @@
 // Rounding: a numerator over a positive denominator, down, and to the nearest whole number.
 ghost use mathlib.Core.Path.{_≡_};
-ghost use Prim.Native.Nat.{_*_, _^_, _≤_};
+ghost use Prim.Native.Nat.{_-_, _*_, _^_, _≤_};
 ghost use lib.IntN.{pos, natAbs};
 ghost use lib.Signed.{_<ℤ_};
 ghost use Rattle.rounding.specs.Rounding.{floor, round};
@@ -20,7 +20,7 @@ pub fn floor_division(numerator: i64, denominator: i64) -> i64
 
 // Rounded to the nearest whole number, halves going up, and narrowed: the numerator is at most as many denominators as an i32 can say.
 pub fn rounded(numerator: i64, denominator: i64) -> i32
-    requires { ⌜ (pos 0 <ℤ denominator) × (natAbs denominator ≤ 2 ^ 30) × (natAbs numerator ≤ 2147483647 * natAbs denominator) ⌝ }
+    requires { ⌜ (pos 0 <ℤ denominator) × (natAbs denominator ≤ 2 ^ 30) × (natAbs numerator ≤ (2 ^ 31 - 1) * natAbs denominator) ⌝ }
     ensures { λ r. ⌜ r ≡ round numerator (natAbs denominator) ⌝ }
 {
     let top = 2 * numerator + denominator;

@@ -1,7 +1,7 @@
 -- `floor_division` divides a number that is not negative; what it makes of the quotient is the definition's, case by case.
-use Prim.Native.Nat.{ℕ, _/_}
+use Prim.Native.Nat.{_/_}
 use mathlib.Core.Path.{_≡_, ap, _∙_}
-use mathlib.Core.Bool.{true, false}
+use mathlib.Core.Bool.{true}
 use lib.IntN.{ℤ, pos, negsuc, natAbs, _-ℤ_}
 use lib.Signed.{mag, ltZ, quotZ}
 use mir.Syntax.{w64}

@@ -1,5 +1,5 @@
 -- `rounded` is the floor of (2n+d)/2d as the definition has it, and `round-at-most` says that the result can be narrowed.
-use Prim.Native.Nat.{ℕ, _+_, _*_, _≤_, _<_}
+use Prim.Native.Nat.{_*_, _<_}
 use mathlib.Core.Path.{_≡_, ap, _∙_}
 use native.Mathlib.Omega.{arith}
 use lib.Dec.{lt→ltb}

@@ -1,20 +1,20 @@
 -- `add_at` adds at a border halfedge and nowhere else; its far end is where the next halfedge starts.
 use Prim.Native.Nat.{_<_}
-use mathlib.Core.Path.{_≡_, sym, ap, _∙_, subst}
+use mathlib.Core.Path.{sym, ap, _∙_, subst}
 use native.Mathlib.Omega.{arith}
 use lib.ListN.{length}
 use borrow.Author.Tests.{eq-eqb, ne-eqb}
 use borrow.Author.Needs.{needs}
 use Rattle.halfedges.specs.Cage.{cell}
 use Rattle.points.specs.Passes.{addEnds, AddsEnds, addBorder}
-use Rattle.points.proofs.Triangles.{next-below}
+use Rattle.halfedges.proofs.Triangle.{next-below}
 use Rattle.points.proofs.border.add_at.Statement.{statement}
 use Rattle.points.proofs.border.add_at.Tie as tie
 
 next-in : (c : tie.After-next) → c .next .result < length (c .before .before .before .before .before .before .args .vert .now)
 next-in c =
     let s = c .before .before .before .before .before .before in
-    rw (c .next .ensures) (next-below (s .args .halfedge) (length (s .args .vert .now)) (s .pre .2) (s .pre .1))
+    rw (c .next .ensures) (next-below (s .pre .2) (s .pre .1))
 
 mul-if1 : tie.Need-mul-if1
 mul-if1 c = search needs

@@ -1,11 +1,11 @@
 -- `clear_border` takes one step of its definition a turn.
-use Prim.Native.Nat.{_+_, _-_, _≤_, _<_}
-use mathlib.Core.Path.{_≡_, refl, sym, ap, _∙_}
+use Prim.Native.Nat.{_-_, _≤_, _<_}
+use mathlib.Core.Path.{_≡_, refl, sym}
 use native.Mathlib.Omega.{arith}
 use lib.ListN.{length}
 use borrow.Author.Needs.{needs}
 use Rattle.laws.specs.Steps.{steps}
-use Rattle.laws.proofs.Steps.{steps-none, steps-on}
+use Rattle.laws.proofs.Steps.{steps-none, steps-on, steps-end}
 use Rattle.points.specs.Passes.{clearBorder}
 use Rattle.points.proofs.border.clear_border.Statement.{statement}
 use Rattle.points.proofs.border.clear_border.Tie as tie
@@ -35,18 +35,13 @@ loop-less c = search needs
 loop-again : tie.Need-loop-again Inv-loop μ-loop
 loop-again c =
     let b = c .before .before .before .before in
-    let s = b .before .before .before in
-    (omega arith, search needs, steps-on (clearBorder (s .args .twin .now) (s .args .vert .now) (s .args .vertices)) (s .args .points .now) (b .loop .halfedge) (b .loop .inv .2) (c .before .clear-at .ensures))
+    (omega arith, search needs, steps-on _ _ _ (b .loop .inv .2) (c .before .clear-at .ensures))
 
 same-length : tie.Need-same-length Inv-loop μ-loop
 same-length c = search needs
 
 returns : tie.Need-returns Inv-loop μ-loop
-returns c =
-    let b = c .before in
-    let s = b .before .before .before in
-    let e : b .loop .halfedge ≡ length (s .args .vert .now) = omega arith in
-    b .loop .inv .2 ∙ ap (λ i. steps i (clearBorder (s .args .twin .now) (s .args .vert .now) (s .args .vertices)) (s .args .points .now)) e
+returns c = steps-end _ _ (c .before .loop .inv .2) (omega arith)
 
 pub clear-border-spec : {M : Type 1} → statement M
 clear-border-spec =

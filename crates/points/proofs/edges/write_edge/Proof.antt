@@ -1,19 +1,19 @@
 -- `write_edge` goes by its twin: the three ways are those of its definition.
-use Prim.Native.Nat.{_+_, _*_, _<_}
-use mathlib.Core.Path.{_≡_, ap, _∙_}
+use Prim.Native.Nat.{_+_, _*_, _^_, _<_}
+use mathlib.Core.Path.{ap, _∙_}
 use native.Mathlib.Omega.{arith}
 use lib.ListN.{length}
 use borrow.Author.Needs.{needs}
 use Rattle.halfedges.specs.Cage.{cell}
 use Rattle.points.specs.Passes.{Near}
-use Rattle.points.proofs.Triangles.{previous-below}
+use Rattle.halfedges.proofs.Triangle.{prev-below}
 use Rattle.points.proofs.Gathered.{far-below}
 use Rattle.points.proofs.Writes.{near, border-way, no-way, inner-way}
 use Rattle.points.proofs.edges.write_edge.Statement.{statement}
 use Rattle.points.proofs.edges.write_edge.Tie as tie
 
 module _ (s : tie.Start) where
-  has-place : (s .args .halfedge < length (s .args .edge .now)) × (6 * s .args .vertices + 3 * cell (s .args .edge .now) (s .args .halfedge) < 18446744073709551616)
+  has-place : (s .args .halfedge < length (s .args .edge .now)) × (6 * s .args .vertices + 3 * cell (s .args .edge .now) (s .args .halfedge) < 2 ^ 64)
   has-place = (omega (arith, s .pre .0 .edge-long), omega (arith, s .pre .0 .room (s .args .halfedge) (s .pre .1)))
 
   from-near : Near (s .args .points .now) (s .args .a)
@@ -25,13 +25,13 @@ module _ (s : tie.Start) where
   opposite-near : Near (s .args .points .now) (s .args .c)
   opposite-near =
       near _ _ _ _ _ _ (s .pre .0) (s .pre .1) _
-      (omega (arith, s .pre .4, s .pre .0 .cornered .below _ (previous-below _ _ (s .pre .0 .cornered .whole) (s .pre .1))))
+      (omega (arith, s .pre .4, s .pre .0 .cornered .below _ (prev-below (s .pre .0 .cornered .whole) (s .pre .1))))
 
 other-below : (c : tie.Else2) → cell (c .before .before .before .before .before .before .args .twin .now) (c .before .before .before .before .before .before .args .halfedge) < length (c .before .before .before .before .before .before .args .vert .now)
 other-below c = let s = c .before .before .before .before .before .before in s .pre .0 .twin-below (s .args .halfedge) (s .pre .1) (c .before .if1 .left)
 
 opposite-below : (c : tie.After-previous) → c .previous .result < length (c .before .before .before .before .before .before .before .args .vert .now)
-opposite-below c = rw (c .previous .ensures) (previous-below _ _ (c .before .before .before .before .before .before .before .pre .0 .cornered .whole) (other-below (c .before)))
+opposite-below c = rw (c .previous .ensures) (prev-below (c .before .before .before .before .before .before .before .pre .0 .cornered .whole) (other-below (c .before)))
 
 mul-other : tie.Need-mul-other
 mul-other c = search needs

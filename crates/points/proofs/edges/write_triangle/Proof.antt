@@ -6,7 +6,7 @@ use borrow.Author.Needs.{needs}
 use Rattle.halfedges.specs.Cage.{cell}
 use Rattle.halfedges.specs.Corners.{corners}
 use Rattle.points.specs.Passes.{Edged, putEdge, putTriangle}
-use Rattle.points.proofs.Triangles.{next-first, next-second, next-third, previous-first, previous-second, previous-third}
+use Rattle.halfedges.proofs.Triangle.{next-0, next-1, next-2, prev-0, prev-1, prev-2}
 use Rattle.points.proofs.Writes.{edged-step}
 use Rattle.points.proofs.edges.write_triangle.Statement.{statement}
 use Rattle.points.proofs.edges.write_triangle.Tie as tie
@@ -44,7 +44,7 @@ write-edge-requires c κs =
     let s = k .before .before .before .before in
     let v = s .args .vert .now in
     let t = s .args .triangle in
-    (s .pre .0, omega arith, corner k 0, corner k 1 ∙ ap (cell v) (sym (next-first t)), corner k 2 ∙ ap (cell v) (sym (previous-first t)))
+    (s .pre .0, omega arith, corner k 0, corner k 1 ∙ ap (cell v) (sym (next-0 t)), corner k 2 ∙ ap (cell v) (sym (prev-0 t)))
 
 add-write-edge : tie.Need-add-write-edge
 add-write-edge c = search needs
@@ -59,8 +59,8 @@ write-edge-requires-2 c κs =
       subst (Edged (s .args .twin .now) v (s .args .edge .now) (s .args .vertices)) (sym (one .write-edge .ensures)) (edged-step _ _ _ _ _ _ (s .pre .0) (omega arith)),
       omega arith,
       corner k 1,
-      corner k 2 ∙ ap (cell v) (sym (next-second t)),
-      corner k 0 ∙ ap (cell v) (sym (previous-second t)),
+      corner k 2 ∙ ap (cell v) (sym (next-1 t)),
+      corner k 0 ∙ ap (cell v) (sym (prev-1 t)),
     )
 
 add-write-edge-2 : tie.Need-add-write-edge-2
@@ -78,8 +78,8 @@ write-edge-requires-3 c κs =
           (edged-step _ _ _ _ _ _ (edged-step _ _ _ _ _ _ (s .pre .0) (omega arith)) (omega arith)),
       s .pre .1,
       corner k 2,
-      corner k 0 ∙ ap (cell v) (sym (next-third t)),
-      corner k 1 ∙ ap (cell v) (sym (previous-third t)),
+      corner k 0 ∙ ap (cell v) (sym (next-2 t)),
+      corner k 1 ∙ ap (cell v) (sym (prev-2 t)),
     )
 
 same-length : tie.Need-same-length

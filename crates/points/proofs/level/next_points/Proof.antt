@@ -24,16 +24,16 @@ module _ (s : tie.Start) where
   l = s .args .points .now
 
 -- the table after each pass
-abbrev start : tie.After-clear → tie.Start
+abbrev start : tie.After-clear-sums → tie.Start
 start a = a .before .before .before .before .before
 
-is-cleared : (a : tie.After-clear) → a .clear .last .0 ≡ after-clear (start a .args .table) (c· (start a)) (l (start a)) (start a .pre)
-is-cleared a = a .clear .ensures
+is-cleared : (a : tie.After-clear-sums) → a .clear-sums .last .0 ≡ after-clear (start a .args .table) (c· (start a)) (l (start a)) (start a .pre)
+is-cleared a = a .clear-sums .ensures
 
-is-gathered : (a : tie.After-gather) → let s = start (a .before .before .before) in a .gather .last .1 .0 ≡ after-gather (s .args .table) (c· s) (l s) (s .pre)
+is-gathered : (a : tie.After-add-spokes) → let s = start (a .before .before .before) in a .add-spokes .last .1 .0 ≡ after-gather (s .args .table) (c· s) (l s) (s .pre)
 is-gathered a =
     let s = start (a .before .before .before) in
-    a .gather .ensures ∙ ap (steps (length (s .args .vert .now)) (spoke (s .args .vert .now) (n s))) (is-cleared (a .before .before .before))
+    a .add-spokes .ensures ∙ ap (steps (length (s .args .vert .now)) (spoke (s .args .vert .now) (n s))) (is-cleared (a .before .before .before))
 
 is-border-cleared : (a : tie.After-clear-border) → let s = start (a .before .before .before .before .before .before) in a .clear-border .last .1 .1 .0 ≡ after-clear-border (s .args .table) (c· s) (l s) (s .pre)
 is-border-cleared a =
@@ -45,16 +45,16 @@ is-joined a =
     let s = start (a .before .before .before .before .before .before .before .before .before) in
     a .add-border .ensures ∙ ap (steps (length (s .args .vert .now)) (addBorder (s .args .twin .now) (s .args .vert .now) (n s))) (is-border-cleared (a .before .before .before))
 
-is-settled : (a : tie.After-settle) → let s = start (a .before .before .before .before .before .before .before .before .before .before .before .before) in a .settle .last .0 ≡ after-settle (s .args .table) (c· s) (l s) (s .pre)
+is-settled : (a : tie.After-settle-vertices) → let s = start (a .before .before .before .before .before .before .before .before .before .before .before .before) in a .settle-vertices .last .0 ≡ after-settle (s .args .table) (c· s) (l s) (s .pre)
 is-settled a =
     let s = start (a .before .before .before .before .before .before .before .before .before .before .before .before) in
-    a .settle .ensures ∙ ap (steps (n s) (settle (n s))) (is-joined (a .before .before .before))
+    a .settle-vertices .ensures ∙ ap (steps (n s) (settle (n s))) (is-joined (a .before .before .before))
 
-clear-requires : tie.Need-clear-requires
-clear-requires c κs = search needs
+clear-sums-requires : tie.Need-clear-sums-requires
+clear-sums-requires c κs = search needs
 
-gather-requires : tie.Need-gather-requires
-gather-requires c κs =
+add-spokes-requires : tie.Need-add-spokes-requires
+add-spokes-requires c κs =
     let a = c .before .before in
     let s = start a in
     subst (λ q. Cornered (s .args .vert .now) (n s) × Laid (n s) q × Cleared (n s) q) (sym (is-cleared a)) (gathers _ (c· s) (l s) (s .pre))
@@ -68,14 +68,14 @@ add-border-requires c κs =
     let s = start (a .before .before .before .before .before .before) in
     subst (λ q. Cornered (s .args .vert .now) (n s) × Bordered (s .args .twin .now) (s .args .vert .now) (n s) × Laid (n s) q × Summed (n s) q) (sym (is-border-cleared a)) (joins _ (c· s) (l s) (s .pre))
 
-settle-requires : tie.Need-settle-requires
-settle-requires c κs =
+settle-vertices-requires : tie.Need-settle-vertices-requires
+settle-vertices-requires c κs =
     let a = c .before .before in
     let s = start (a .before .before .before .before .before .before .before .before .before) in
     subst (λ q. (7 * n s ≤ length q) × ((v : ℕ) → v < n s → SettlesAt (n s) v q)) (sym (is-joined a)) (settles _ (c· s) (l s) (s .pre))
 
-write-requires : tie.Need-write-requires
-write-requires c κs =
+write-edges-requires : tie.Need-write-edges-requires
+write-edges-requires c κs =
     let a = c .before .before in
     let s = start (a .before .before .before .before .before .before .before .before .before .before .before .before) in
     subst (Edged (s .args .twin .now) (s .args .vert .now) (s .args .edge .now) (n s)) (sym (is-settled a)) (writes _ (c· s) (l s) (s .pre))
@@ -87,7 +87,7 @@ returns : tie.Need-returns
 returns c =
     let a = c .before .before .before .before in
     let s = start (a .before .before .before .before .before .before .before .before .before .before .before .before) in
-    c .before .write .ensures
+    c .before .write-edges .ensures
     ∙ ap (λ q. steps (length (s .args .vert .now)) (putEdge (s .args .twin .now) (s .args .vert .now) (s .args .edge .now) (n s)) q) (is-settled a)
     ∙ passed _ (c· s) (l s) (s .pre)
 
@@ -95,11 +95,11 @@ pub next-points-spec : {M : Type 1} → statement M
 next-points-spec =
     tie.close
     (tie.spec
-    clear-requires
-    gather-requires
+    clear-sums-requires
+    add-spokes-requires
     clear-border-requires
     add-border-requires
-    settle-requires
-    write-requires
+    settle-vertices-requires
+    write-edges-requires
     same-length
     returns)

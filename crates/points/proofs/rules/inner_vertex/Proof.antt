@@ -1,5 +1,5 @@
 -- `inner_vertex` rounds V.3's numerator, as `V3-is` has it, which few corners and their coordinates keep small.
-use Prim.Native.Nat.{ℕ, _*_, _≤_, _<_}
+use Prim.Native.Nat.{_*_, _≤_, _<_}
 use mathlib.Core.Path.{_≡_, sym, ap, _∙_, subst}
 use native.Mathlib.Nat.{mul-le-mul-left}
 use native.Mathlib.Omega.{arith}
@@ -11,9 +11,7 @@ use mir.Val.{SFits}
 use mir.Facts.{toZ-ofZ}
 use Rattle.laws.proofs.Integers.{natAbs-mul, pos-of, small-fits, back-of}
 use Rattle.rounding.specs.Rounding.{round}
-use Rattle.points.specs.PointRules.{V3}
 use Rattle.points.specs.Operations.{most-coordinate}
-use Rattle.points.specs.Relied.{most-corners}
 use Rattle.points.proofs.Numerators.{V3-numerator, V3-is}
 use Rattle.points.proofs.rules.inner_vertex.Statement.{statement}
 use Rattle.points.proofs.rules.inner_vertex.Tie as tie

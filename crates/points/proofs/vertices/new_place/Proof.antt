@@ -1,5 +1,5 @@
 -- `new_place` goes by its count as its definition does; a count of six is the same rule at six.
-use Prim.Native.Nat.{ℕ, _*_, _≤_}
+use Prim.Native.Nat.{_*_, _≤_}
 use mathlib.Core.Path.{_≡_, sym, ap, _∙_, subst}
 use mathlib.Core.Logic.{_≢_}
 use native.Mathlib.Omega.{arith}
@@ -7,7 +7,7 @@ use lib.Dec.{lt→ltb}
 use lib.IntN.{ℤ, pos, natAbs}
 use lib.Signed.{_<ℤ_, ltZ-yes}
 use borrow.Author.Tests.{eq-eqb, ne-eqb}
-use mir.Syntax.{w32, w64}
+use mir.Syntax.{w32}
 use mir.Val.{ofZ}
 use mir.Facts.{toZ-ofZ, sfits-widen}
 use Rattle.laws.proofs.Integers.{back-of, widened}

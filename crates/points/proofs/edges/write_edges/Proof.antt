@@ -1,15 +1,15 @@
--- `write` takes three steps of its definition a turn, of a triangle's halfedges.
-use Prim.Native.Nat.{_+_, _-_, _*_, _≤_, _<_}
-use mathlib.Core.Path.{_≡_, refl, sym, ap, _∙_, subst}
+-- `write_edges` takes three steps of its definition a turn, of a triangle's halfedges.
+use Prim.Native.Nat.{_-_, _*_, _≤_}
+use mathlib.Core.Path.{_≡_, refl, sym, subst}
 use native.Mathlib.Omega.{arith}
 use lib.ListN.{length}
 use borrow.Author.Needs.{needs}
 use Rattle.laws.specs.Steps.{steps}
-use Rattle.laws.proofs.Steps.{steps-none, steps-three-on}
+use Rattle.laws.proofs.Steps.{steps-none, steps-three-on, steps-end}
 use Rattle.points.specs.Passes.{Edged, putEdge, putTriangle}
 use Rattle.points.proofs.Writes.{edged-steps}
-use Rattle.points.proofs.edges.write.Statement.{statement}
-use Rattle.points.proofs.edges.write.Tie as tie
+use Rattle.points.proofs.edges.write_edges.Statement.{statement}
+use Rattle.points.proofs.edges.write_edges.Tie as tie
 
 abbrev Inv-loop : tie.InvT-loop
 Inv-loop twin vert edge points₀ vertices triangles triangle₀ points triangle = (triangle ≤ triangles) × (length points ≡ length points₀) × (points ≡ steps (3 * triangle) (putEdge twin vert edge vertices) points₀)
@@ -39,22 +39,16 @@ loop-again : tie.Need-loop-again Inv-loop μ-loop
 unfolding putTriangle
 loop-again c =
     let b = c .before .before .before .before in
-    let s = b .before .before .before .before in
-    (omega arith, search needs, steps-three-on (putEdge (s .args .twin .now) (s .args .vert .now) (s .args .edge .now) (s .args .vertices)) (s .args .points .now) (b .loop .triangle) (b .loop .inv .2) (c .before .write-triangle .ensures))
+    (omega arith, search needs, steps-three-on _ _ _ (b .loop .inv .2) (c .before .write-triangle .ensures))
 
 same-length : tie.Need-same-length Inv-loop μ-loop
 same-length c = search needs
 
 returns : tie.Need-returns Inv-loop μ-loop
-returns c =
-    let b = c .before in
-    let s = b .before .before .before .before in
-    let whole = s .pre .cornered .whole in
-    let e : 3 * b .loop .triangle ≡ length (s .args .vert .now) = omega arith in
-    b .loop .inv .2 ∙ ap (λ i. steps i (putEdge (s .args .twin .now) (s .args .vert .now) (s .args .edge .now) (s .args .vertices)) (s .args .points .now)) e
+returns c = steps-end _ _ (c .before .loop .inv .2) (omega (arith, c .before .before .before .before .before .pre .cornered .whole))
 
-pub write-spec : {M : Type 1} → statement M
-write-spec =
+pub write-edges-spec : {M : Type 1} → statement M
+write-edges-spec =
     tie.close
     (tie.spec
     Inv-loop

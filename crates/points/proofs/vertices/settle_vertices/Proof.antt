@@ -1,15 +1,15 @@
--- `settle` takes one step of its definition a turn, and a vertex's cells are as it found them till then.
-use Prim.Native.Nat.{_+_, _-_, _≤_, _<_}
-use mathlib.Core.Path.{_≡_, refl, sym, ap, _∙_, subst}
+-- `settle_vertices` takes one step of its definition a turn, and a vertex's cells are as it found them till then.
+use Prim.Native.Nat.{_-_, _≤_, _<_}
+use mathlib.Core.Path.{_≡_, refl, sym, subst}
 use native.Mathlib.Omega.{arith}
 use lib.ListN.{length}
 use borrow.Author.Needs.{needs}
 use Rattle.laws.specs.Steps.{steps}
-use Rattle.laws.proofs.Steps.{steps-none, steps-on}
+use Rattle.laws.proofs.Steps.{steps-none, steps-on, steps-end}
 use Rattle.points.specs.Passes.{settle, SettlesAt}
 use Rattle.points.proofs.Settled.{settles-on}
-use Rattle.points.proofs.vertices.settle.Statement.{statement}
-use Rattle.points.proofs.vertices.settle.Tie as tie
+use Rattle.points.proofs.vertices.settle_vertices.Statement.{statement}
+use Rattle.points.proofs.vertices.settle_vertices.Tie as tie
 
 abbrev Inv-loop : tie.InvT-loop
 Inv-loop points₀ vertices vertex₀ points vertex = (vertex ≤ vertices) × (length points ≡ length points₀) × (points ≡ steps vertex (settle vertices) points₀)
@@ -39,21 +39,16 @@ loop-less c = search needs
 loop-again : tie.Need-loop-again Inv-loop μ-loop
 loop-again c =
     let b = c .before .before .before .before in
-    let s = b .before in
-    (omega arith, search needs, steps-on (settle (s .args .vertices)) (s .args .points .now) (b .loop .vertex) (b .loop .inv .2) (c .before .settle-vertex .ensures))
+    (omega arith, search needs, steps-on _ _ _ (b .loop .inv .2) (c .before .settle-vertex .ensures))
 
 same-length : tie.Need-same-length Inv-loop μ-loop
 same-length c = search needs
 
 returns : tie.Need-returns Inv-loop μ-loop
-returns c =
-    let b = c .before in
-    let s = b .before in
-    let e : b .loop .vertex ≡ s .args .vertices = omega arith in
-    b .loop .inv .2 ∙ ap (λ i. steps i (settle (s .args .vertices)) (s .args .points .now)) e
+returns c = steps-end _ _ (c .before .loop .inv .2) (omega arith)
 
-pub settle-spec : {M : Type 1} → statement M
-settle-spec =
+pub settle-vertices-spec : {M : Type 1} → statement M
+settle-vertices-spec =
     tie.close
     (tie.spec
     Inv-loop

@@ -1,16 +1,16 @@
--- `gather` takes three steps of its definition a turn, of a triangle's halfedges; the sums so far leave room for them.
+-- `add_spokes` takes three steps of its definition a turn, of a triangle's halfedges; the sums so far leave room for them.
 use Prim.Native.Nat.{_+_, _-_, _*_, _≤_, _<_}
-use mathlib.Core.Path.{_≡_, refl, sym, ap, _∙_, subst}
+use mathlib.Core.Path.{_≡_, refl, sym, subst}
 use native.Mathlib.Omega.{arith}
 use lib.ListN.{length}
 use borrow.Author.Needs.{needs}
 use Rattle.laws.specs.Steps.{steps}
-use Rattle.laws.proofs.Steps.{steps-none}
-use Rattle.points.specs.Passes.{spoke, addTriangle, AddsTriangle}
+use Rattle.laws.proofs.Steps.{steps-none, steps-end}
+use Rattle.points.specs.Passes.{spoke, AddsTriangle}
 use Rattle.points.proofs.Added.{holds-own}
-use Rattle.points.proofs.Gathered.{gathered-only, triangle-adds, triangle-steps}
-use Rattle.points.proofs.spokes.gather.Statement.{statement}
-use Rattle.points.proofs.spokes.gather.Tie as tie
+use Rattle.points.proofs.Gathered.{triangle-adds, triangle-on}
+use Rattle.points.proofs.spokes.add_spokes.Statement.{statement}
+use Rattle.points.proofs.spokes.add_spokes.Tie as tie
 
 abbrev Inv-loop : tie.InvT-loop
 Inv-loop vert points₀ vertices triangles triangle₀ points triangle = (triangle ≤ triangles) × (length points ≡ length points₀) × (points ≡ steps (3 * triangle) (spoke vert vertices) points₀)
@@ -44,33 +44,17 @@ loop-less c = search needs
 
 loop-again : tie.Need-loop-again Inv-loop μ-loop
 loop-again c =
-    let t = c .before .before .before .corners-of in
     let b = c .before .before .before .before .before in
-    let s = b .before .before in
-    let n = s .args .vertices in
-    let v = s .args .vert .now in
-    let l = s .args .points .now in
-    let e : c .before .add-triangle .last .0 ≡ steps (3 * (b .loop .triangle + 1)) (spoke v n) l =
-    c .before .add-triangle .ensures
-    ∙ ap (addTriangle n (t .result)) (b .loop .inv .2)
-    ∙ ap (λ k. addTriangle n k (steps (3 * b .loop .triangle) (spoke v n) l)) (t .ensures)
-    ∙ triangle-steps v n l (b .loop .triangle)
-    in
-    (omega arith, ap length e ∙ gathered-only v n (s .pre .0) l (s .pre .1 .room) (3 * (b .loop .triangle + 1)) (omega arith) .long, e)
+    (omega arith, search needs, triangle-on _ _ _ _ (c .before .before .before .corners-of .ensures) (b .loop .inv .2) (c .before .add-triangle .ensures))
 
 same-length : tie.Need-same-length Inv-loop μ-loop
 same-length c = search needs
 
 returns : tie.Need-returns Inv-loop μ-loop
-returns c =
-    let b = c .before in
-    let s = b .before .before in
-    let whole = s .pre .0 .whole in
-    let e : 3 * b .loop .triangle ≡ length (s .args .vert .now) = omega arith in
-    b .loop .inv .2 ∙ ap (λ i. steps i (spoke (s .args .vert .now) (s .args .vertices)) (s .args .points .now)) e
+returns c = steps-end _ _ (c .before .loop .inv .2) (omega (arith, c .before .before .before .pre .0 .whole))
 
-pub gather-spec : {M : Type 1} → statement M
-gather-spec =
+pub add-spokes-spec : {M : Type 1} → statement M
+add-spokes-spec =
     tie.close
     (tie.spec
     Inv-loop

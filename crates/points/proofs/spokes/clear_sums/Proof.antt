@@ -1,14 +1,14 @@
--- `clear` takes one step of its definition a turn.
-use Prim.Native.Nat.{_+_, _-_, _*_, _≤_}
+-- `clear_sums` takes one step of its definition a turn.
+use Prim.Native.Nat.{_-_, _≤_}
 use mathlib.Core.Path.{_≡_, refl, sym, ap, _∙_}
 use native.Mathlib.Omega.{arith}
 use lib.ListN.{length, length-set}
 use borrow.Author.Needs.{needs}
 use Rattle.laws.specs.Steps.{steps}
-use Rattle.laws.proofs.Steps.{steps-none, steps-more}
+use Rattle.laws.proofs.Steps.{steps-none, steps-more, steps-end}
 use Rattle.points.specs.Passes.{clearCell}
-use Rattle.points.proofs.spokes.clear.Statement.{statement}
-use Rattle.points.proofs.spokes.clear.Tie as tie
+use Rattle.points.proofs.spokes.clear_sums.Statement.{statement}
+use Rattle.points.proofs.spokes.clear_sums.Tie as tie
 
 abbrev Inv-loop : tie.InvT-loop
 Inv-loop points₀ vertices start cells i₀ points i = (i ≤ cells) × (length points ≡ length points₀) × (points ≡ steps i (clearCell vertices) points₀)
@@ -52,13 +52,10 @@ same-length : tie.Need-same-length Inv-loop μ-loop
 same-length c = search needs
 
 returns : tie.Need-returns Inv-loop μ-loop
-returns c =
-    let b = c .before in
-    let e : b .loop .i ≡ 4 * b .before .args .vertices = omega arith in
-    b .loop .inv .2 ∙ ap (λ i. steps i (clearCell (b .before .args .vertices)) (b .before .args .points .now)) e
+returns c = steps-end _ _ (c .before .loop .inv .2) (omega arith)
 
-pub clear-spec : {M : Type 1} → statement M
-clear-spec =
+pub clear-sums-spec : {M : Type 1} → statement M
+clear-sums-spec =
     tie.close
     (tie.spec
     Inv-loop
