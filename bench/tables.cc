@@ -79,8 +79,8 @@ struct Natural {
   }
 };
 
-// Tuned: a loop over triangles that reads each old cell once, by pointers that do not alias, where "h > t or no t" is
-// one comparison of signed numbers, the marker being -1.
+// Tuned: a table at a time, so that stores go to few places at once, and in it a triangle at a time, whose old cells are all
+// read before its twelve new ones are written. "h > t or no t" is one comparison of signed numbers, the marker being -1.
 struct Tuned {
   static constexpr const char* kName = "tuned";
 
@@ -88,36 +88,50 @@ struct Tuned {
   static uint32_t inner(uint32_t t) { return t == kNoTwin ? kNoTwin : 3 * t; }
   static uint32_t above(uint32_t t, uint32_t h) { return int32_t(h) > int32_t(t); }
 
-  static void level(Tables& tables, size_t at, Counts c) {
-    const uint32_t* __restrict twin = &tables.twin[at];
-    const uint32_t* __restrict vert = &tables.vert[at];
-    const uint32_t* __restrict edge = &tables.edge[at];
-    uint32_t* __restrict corner_twin = &tables.twin[at + c.halfedges];
-    uint32_t* __restrict corner_vert = &tables.vert[at + c.halfedges];
-    uint32_t* __restrict corner_edge = &tables.edge[at + c.halfedges];
-    uint32_t* __restrict middle_twin = corner_twin + 3 * size_t(c.halfedges);
-    uint32_t* __restrict middle_vert = corner_vert + 3 * size_t(c.halfedges);
-    uint32_t* __restrict middle_edge = corner_edge + 3 * size_t(c.halfedges);
-    for (uint32_t h = 0; h < c.halfedges; h += 3) {
-      const uint32_t t[3] = {twin[h], twin[h + 1], twin[h + 2]};
-      const uint32_t e[3] = {edge[h], edge[h + 1], edge[h + 2]};
-      const uint32_t v[3] = {vert[h], vert[h + 1], vert[h + 2]};
-      for (uint32_t i = 0; i < 3; ++i) {
-        const uint32_t p = (i + 2) % 3, k = h + i;
-        corner_twin[3 * k] = outer(t[i]);
-        corner_twin[3 * k + 1] = 3 * c.halfedges + k;
-        corner_twin[3 * k + 2] = inner(t[p]);
-        middle_twin[k] = 3 * k + 1;
-        corner_edge[3 * k] = 2 * e[i] + 1 - above(t[i], k);
-        corner_edge[3 * k + 1] = 2 * c.edges + k;
-        corner_edge[3 * k + 2] = 2 * e[p] + above(t[p], h + p);
-        middle_edge[k] = 2 * c.edges + k;
-        corner_vert[3 * k] = v[i];
-        corner_vert[3 * k + 1] = c.vertices + e[i];
-        corner_vert[3 * k + 2] = c.vertices + e[p];
-        middle_vert[k] = c.vertices + e[p];
-      }
+  // A triangle's cells of one row, and its cells of the four rows: 3h, 3h+1, 3h+2 and 3H+h.
+  struct Three {
+    uint32_t a, b, c;
+  };
+  static void put(uint32_t* __restrict corner, uint32_t* __restrict middle, Three first, Three second, Three third,
+                  Three fourth) {
+    corner[0] = first.a, corner[1] = second.a, corner[2] = third.a;
+    corner[3] = first.b, corner[4] = second.b, corner[5] = third.b;
+    corner[6] = first.c, corner[7] = second.c, corner[8] = third.c;
+    middle[0] = fourth.a, middle[1] = fourth.b, middle[2] = fourth.c;
+  }
+
+  static void twins(const uint32_t* __restrict twin, uint32_t* __restrict fresh, uint32_t halfedges) {
+    uint32_t* __restrict middle = fresh + 3 * size_t(halfedges);
+    for (uint32_t h = 0; h < halfedges; h += 3) {
+      const uint32_t a = twin[h], b = twin[h + 1], c = twin[h + 2], m = 3 * halfedges + h;
+      put(fresh + 3 * h, middle + h, {outer(a), outer(b), outer(c)}, {m, m + 1, m + 2}, {inner(c), inner(a), inner(b)},
+          {3 * h + 1, 3 * h + 4, 3 * h + 7});
     }
+  }
+
+  static void verts(const uint32_t* __restrict vert, const uint32_t* __restrict edge, uint32_t* __restrict fresh, Counts n) {
+    uint32_t* __restrict middle = fresh + 3 * size_t(n.halfedges);
+    for (uint32_t h = 0; h < n.halfedges; h += 3) {
+      const uint32_t a = n.vertices + edge[h], b = n.vertices + edge[h + 1], c = n.vertices + edge[h + 2];
+      put(fresh + 3 * h, middle + h, {vert[h], vert[h + 1], vert[h + 2]}, {a, b, c}, {c, a, b}, {c, a, b});
+    }
+  }
+
+  static void edges(const uint32_t* __restrict twin, const uint32_t* __restrict edge, uint32_t* __restrict fresh, Counts n) {
+    uint32_t* __restrict middle = fresh + 3 * size_t(n.halfedges);
+    for (uint32_t h = 0; h < n.halfedges; h += 3) {
+      const uint32_t a = 2 * edge[h], b = 2 * edge[h + 1], c = 2 * edge[h + 2], m = 2 * n.edges + h;
+      const uint32_t x = above(twin[h], h), y = above(twin[h + 1], h + 1), z = above(twin[h + 2], h + 2);
+      put(fresh + 3 * h, middle + h, {a + 1 - x, b + 1 - y, c + 1 - z}, {m, m + 1, m + 2}, {c + z, a + x, b + y},
+          {m, m + 1, m + 2});
+    }
+  }
+
+  static void level(Tables& tables, size_t at, Counts n) {
+    const size_t fresh = at + n.halfedges;
+    twins(&tables.twin[at], &tables.twin[fresh], n.halfedges);
+    verts(&tables.vert[at], &tables.edge[at], &tables.vert[fresh], n);
+    edges(&tables.twin[at], &tables.edge[at], &tables.edge[fresh], n);
   }
 };
 
