@@ -1,22 +1,21 @@
 -- Each outcome of checks 1 and 2 of the tables, by the tests that lead to it, and the check's answer by what its checks told
 -- (`check-refused`, `check-done`), which determines the result (`checked-alike`). Assumes nothing.
-use Prim.Native.Nat.{ℕ, _/_, _%_}
+use Prim.Native.Nat.{ℕ, _%_}
 use mathlib.Core.Path.{_≡_, sym, _∙_}
 use mathlib.Core.Logic.{_≢_}
 use mathlib.Core.Bool.{true, false, not}
-use mathlib.Core.List.{[], _∷_}
+use mathlib.Core.List.{List}
 use lib.Dec.{eqb}
-use lib.ListN.{length, getD}
+use lib.ListN.{length, getD, replicate}
 use borrow.Author.Tests.{eq-eqb, ne-eqb}
 use Rattle.halfedges.specs.declared.answer.Answer.{Answer}
-use Rattle.halfedges.specs.Cage.{E, B}
-use Rattle.halfedges.specs.Refusals.{DONE, SHAPE, LIMIT, told, given, first, said}
+use Rattle.halfedges.specs.Refusals.{Verdict, SHAPE, LIMIT, told, given, first, said}
 use Rattle.halfedges.proofs.Told.{told-alike, zero-done}
 use Rattle.halfedges.specs.Counts.{aboveLimit}
 use Rattle.connectivity.specs.declared.check.Checked.{Checked}
 use Rattle.connectivity.specs.Tables.{Tables}
 use Rattle.connectivity.specs.Rules.{misshapen}
-use Rattle.connectivity.specs.Operations.{rules, tableChecks, returned, refusedCheck, checked, checkTables}
+use Rattle.connectivity.specs.Operations.{rules, tableChecks, returned, refusedCheck, acceptedCheck, checked}
 
 module _ (c : Tables) (v depth : ℕ) where
   -- rule 1's last clause
@@ -37,15 +36,15 @@ module _ (c : Tables) (v depth : ℕ) where
     unfolding tableChecks first given
     table-rules l = simp (s, l)
 
--- the check's answer, from what its checks told
-module _ (c : Tables) (v : ℕ) (a : Answer) {n : ℕ} (e : told a ≡ first (tableChecks c v 0)) (m : n ≡ told a .number) where
-  pub check-refused : n ≢ 0 → refusedCheck (told a) ≡ checkTables c v
-  unfolding checkTables said
+-- a check's answer, from what its list of checks told
+module _ (vs : List Verdict) (twin : List ℕ) (v : ℕ) (a : Answer) {n : ℕ} (e : told a ≡ first vs) (m : n ≡ told a .number) where
+  pub check-refused : n ≢ 0 → refusedCheck (told a) ≡ said (first vs) (returned twin v) (replicate 5 0)
+  unfolding said
   check-refused r = rw (← e, ne-eqb (told a .number) 0 (λ z. r (m ∙ z)))
 
-  pub check-done : n ≡ 0 → {edges borders : ℕ} → edges ≡ E (c .twin) → borders ≡ B (c .twin) → record { verdict = DONE; values = length (c .twin) ∷ edges ∷ length (c .twin) / 3 ∷ v ∷ borders ∷ [] } ≡ checkTables c v
-  unfolding checkTables said returned
-  check-done z f g = rw (← e, zero-done a (sym m ∙ z), f, g)
+  pub check-done : n ≡ 0 → acceptedCheck twin v ≡ said (first vs) (returned twin v) (replicate 5 0)
+  unfolding said
+  check-done z = rw (← e, zero-done a (sym m ∙ z))
 
 -- a promise determines the result: two told alike are the same
 pub checked-alike : (a b : Checked) → checked a ≡ checked b → a ≡ b

@@ -7,7 +7,7 @@ use Rattle.halfedges.specs.declared.table.Levels.{Levels}
 use Rattle.connectivity.specs.declared.check.Checked.{Checked}
 use Rattle.laws.specs.Below.{endToEnd}
 use Rattle.halfedges.specs.Cage.{F, E, B}
-use Rattle.halfedges.specs.Refusals.{Verdict, SHAPE, LIMIT, TWIN, VERTEX, UNUSED, EDGE, FAN, told, given, givenAt, short, first, Said, said, filled}
+use Rattle.halfedges.specs.Refusals.{Verdict, DONE, SHAPE, LIMIT, TWIN, VERTEX, UNUSED, EDGE, FAN, told, given, givenAt, short, first, Said, said, filled}
 use Rattle.halfedges.specs.Counts.{noLevels, roomH, aboveLimit, countQuestion}
 use Rattle.connectivity.specs.Tables.{Tables, tables, countsOf}
 use Rattle.connectivity.specs.Rules.{misshapen, badTwin, badVertex, unused, badEdge}
@@ -29,16 +29,20 @@ unfoldable pub tableChecks : Tables → ℕ → ℕ → List Verdict
 tableChecks c v depth = given (misshapen c) SHAPE ∷ given (aboveLimit (length (c .twin)) v depth) LIMIT ∷ rules c v
 
 -- "Done, the cage check returns H, E, F, V and B"
-unfoldable pub returned : Tables → ℕ → List ℕ
-returned c v = length (c .twin) ∷ E (c .twin) ∷ F (length (c .twin)) ∷ v ∷ B (c .twin) ∷ []
+unfoldable pub returned : List ℕ → ℕ → List ℕ
+returned twin v = length twin ∷ E twin ∷ F (length twin) ∷ v ∷ B twin ∷ []
 
 -- the check 1 to 7, which has no depth
 unfoldable pub checkTables : Tables → ℕ → Said (List ℕ)
-checkTables c v = said (first (tableChecks c v 0)) (returned c v) (replicate 5 0)
+checkTables c v = said (first (tableChecks c v 0)) (returned (c .twin) v) (replicate 5 0)
 
 -- a refusal with v's number and place
 abbrev pub refusedCheck : Verdict → Said (List ℕ)
 refusedCheck v = record { verdict = v; values = replicate 5 0 }
+
+-- and the answer of a cage that passes
+abbrev pub acceptedCheck : List ℕ → ℕ → Said (List ℕ)
+acceptedCheck twin v = record { verdict = DONE; values = returned twin v }
 
 -- what the code's answer says
 abbrev pub checked : Checked → Said (List ℕ)

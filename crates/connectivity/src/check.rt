@@ -7,7 +7,7 @@ ghost use Rattle.halfedges.specs.Refusals.{told, first};
 ghost use Rattle.connectivity.specs.Tables.{tables};
 ghost use Rattle.connectivity.specs.Rules.{misshapen as Rules·misshapen};
 ghost use Rattle.connectivity.specs.Ruled.{Shaped};
-ghost use Rattle.connectivity.specs.Operations.{rules as Operations·rules, tableChecks, checkTables, refusedCheck, checked};
+ghost use Rattle.connectivity.specs.Operations.{rules as Operations·rules, tableChecks, checkTables, refusedCheck, acceptedCheck, checked};
 use crate::fans;
 use crate::rules;
 use halfedges::answer::Answer;
@@ -31,6 +31,13 @@ pub fn check_tables(twin: &[u32], vert: &[u32], edge: &[u32], vertices: usize) -
     if answer.number() != 0 {
         return refused(answer);
     }
+    accepted(twin, vertices)
+}
+
+// The answer of a cage that passes: H, E, F, V and B.
+pub fn accepted(twin: &[u32], vertices: usize) -> Checked
+    ensures { λ r. ⌜ checked r ≡ acceptedCheck (now (twin .entry)) vertices ⌝ }
+{
     Checked {
         answer: Answer::Done,
         halfedges: twin.len(),

@@ -35,7 +35,7 @@ cageChecks c points depth =
 
 -- "The cage check has no depth and gives 1 to 8"
 unfoldable pub checkCage : Tables → List ℤ → Said (List ℕ)
-checkCage c points = said (first (cageChecks c points 0)) (returned c (vertices points)) (replicate 5 0)
+checkCage c points = said (first (cageChecks c points 0)) (returned (c .twin) (vertices points)) (replicate 5 0)
 
 -- "Refining gives 1 to 9"; "Room is the sum of H in each of the first three, three times the sum of V in the points"
 unfoldable pub refineVerdict : Tables → List ℤ → ℕ → Tables → List ℤ → Verdict

@@ -2,6 +2,7 @@
 use borrow.Author.Needs.{needs}
 use mathlib.Core.Path.{_≡_, sym, ap, _∙_}
 use Rattle.halfedges.specs.Refusals.{told}
+use Rattle.connectivity.specs.Operations.{checkTables}
 use Rattle.connectivity.proofs.TableChecks.{check-refused, check-done}
 use Rattle.connectivity.proofs.check.check_tables.Statement.{statement}
 use Rattle.connectivity.proofs.check.check_tables.Tie as tie
@@ -16,20 +17,19 @@ refused-requires : tie.Need-refused-requires
 refused-requires c κs = search needs
 
 returns : tie.Need-returns
+unfolding checkTables
 returns c =
     let one = c .before in
-    c .refused .ensures ∙ check-refused _ _ (one .before .before .check-for-depth .result) (one .before .before .check-for-depth .ensures) (one .before .number .ensures) (one .if1 .taken)
+    c .refused .ensures ∙ check-refused _ _ _ (one .before .before .check-for-depth .result) (one .before .before .check-for-depth .ensures) (one .before .number .ensures) (one .if1 .taken)
 
-count-edges-requires : tie.Need-count-edges-requires
-count-edges-requires c κs = search needs
-
-count-borders-requires : tie.Need-count-borders-requires
-count-borders-requires c κs = search needs
+accepted-requires : tie.Need-accepted-requires
+accepted-requires c κs = search needs
 
 returns-2 : tie.Need-returns-2
+unfolding checkTables
 returns-2 c =
-    let one = c .before .before in
-    check-done _ _ (one .before .before .check-for-depth .result) (one .before .before .check-for-depth .ensures) (one .before .number .ensures) (one .if1 .left) (c .before .count-edges .ensures) (c .count-borders .ensures)
+    let one = c .before in
+    c .accepted .ensures ∙ check-done _ _ _ (one .before .before .check-for-depth .result) (one .before .before .check-for-depth .ensures) (one .before .number .ensures) (one .if1 .left)
 
 pub check-tables-spec : {M : Type 1} → statement M
 check-tables-spec =
@@ -39,6 +39,5 @@ check-tables-spec =
     number-requires
     refused-requires
     returns
-    count-edges-requires
-    count-borders-requires
+    accepted-requires
     returns-2)

@@ -1,0 +1,66 @@
+// The cage check: any four tables, refusals 1 to 8.
+ghost use mathlib.Core.Path.{_≡_};
+ghost use lib.Dec.{ltb};
+ghost use lib.IntN.{natAbs};
+ghost use lib.ListN.{length};
+ghost use Rattle.halfedges.specs.Refusals.{POINT, told, givenAt, first};
+ghost use Rattle.connectivity.specs.Tables.{tables};
+ghost use Rattle.connectivity.specs.Operations.{checked};
+ghost use Rattle.points.specs.Operations.{most-coordinate, outOfRange, cageChecks, checkCage};
+use connectivity::check;
+use connectivity::check::Checked;
+use halfedges::answer::Answer;
+
+// The cage check, which has no depth.
+pub fn check_cage(twin: &[u32], vert: &[u32], edge: &[u32], points: &[i32]) -> Checked
+    ensures { λ r. ⌜ checked r ≡ checkCage (tables (now (twin .entry)) (now (vert .entry)) (now (edge .entry))) (now (points .entry)) ⌝ }
+{
+    let answer = check_for_depth(twin, vert, edge, points, 0);
+    if answer.number() != 0 {
+        return check::refused(answer);
+    }
+    check::accepted(twin, points.len() / 3)
+}
+
+// Checks 1 to 8 of any tables, where the depth's limit counts too.
+pub fn check_for_depth(
+    twin: &[u32],
+    vert: &[u32],
+    edge: &[u32],
+    points: &[i32],
+    depth: usize,
+) -> Answer
+    ensures { λ r. ⌜ told r ≡ first (cageChecks (tables (now (twin .entry)) (now (vert .entry)) (now (edge .entry))) (now (points .entry)) depth) ⌝ }
+{
+    if points.len() % 3 != 0 {
+        return Answer::Shape;
+    }
+    let answer = check::check_for_depth(twin, vert, edge, points.len() / 3, depth);
+    if answer.number() != 0 {
+        return answer;
+    }
+    check_points(points)
+}
+
+// Rule 8.
+pub fn check_points(points: &[i32]) -> Answer
+    ensures { λ r. ⌜ told r ≡ givenAt (length (now (points .entry))) (outOfRange (now (points .entry))) POINT ⌝ }
+{
+    let mut place = 0;
+    while place < points.len() {
+        if out_of_range(points[place]) {
+            return Answer::Point(place);
+        }
+        place += 1;
+    }
+    Answer::Done
+}
+
+fn out_of_range(coordinate: i32) -> bool
+    ensures { λ r. ⌜ r ≡ ltb most-coordinate (natAbs coordinate) ⌝ }
+{
+    if coordinate < -1048576 {
+        return true;
+    }
+    1048576 < coordinate
+}
