@@ -5,6 +5,8 @@
 pub mod check;
 pub mod corners;
 pub mod counts;
+pub mod refining;
+pub mod tables;
 
 use std::fmt::Display;
 use std::str::FromStr;
@@ -44,6 +46,9 @@ fn answer(unread: &mut Unread) -> Option<String> {
         counts::KIND => counts::answer(unread).map(answer_line),
         corners::KIND => corners::answer(unread).map(answer_line),
         check::KIND => check::answer(unread).map(answer_line),
+        tables::KIND => tables::answer(unread).map(answer_line),
+        refining::KIND => refining::answer(unread, joined),
+        refining::DIGEST_KIND => refining::answer(unread, refining::digest),
         _ => None,
     }
 }
