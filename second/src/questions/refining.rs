@@ -6,7 +6,7 @@
 
 use super::counts::numbers_of;
 use super::tables::{other_vertex_counts, read_tables, tables_line};
-use super::{answer_line, question_line, read_number, Unread};
+use super::{answer_line, question_line, read_number, without_repeats, Unread};
 use crate::bare::{check_bare, refine_bare, BareCage};
 use crate::cage::{Cage, DEPTH_LIMIT};
 use crate::counts::count_question;
@@ -89,10 +89,11 @@ pub fn questions() -> String {
     asked.extend(refused_questions());
     asked.extend(short_tables("triangle", 1));
     asked.extend(short_tables("pillow", 2));
-    asked.iter().map(|question| question.line(KIND)).collect()
+    without_repeats(asked.iter().map(|question| question.line(KIND)))
 }
 
-/// Answers that show digests.
+/// Answers that show digests: every accepted cage with at most 200 halfedges
+/// at the deepest level that fits, some cages at all depths, and large ones.
 pub fn digest_questions() -> String {
     let small = accepted_cages();
     let small = small.iter().filter(|entry| !entry.is_large());
@@ -107,8 +108,7 @@ pub fn digest_questions() -> String {
     asked.extend(short_tables("tetrahedron", 4));
     asked.extend(short_tables("octahedron", 5));
     asked.extend(short_tables("triangle", 6));
-    let lines = asked.iter().map(|question| question.line(DIGEST_KIND));
-    lines.collect()
+    without_repeats(asked.iter().map(|question| question.line(DIGEST_KIND)))
 }
 
 /// The sum of H over levels 0 to the depth, for an accepted cage.
@@ -228,4 +228,17 @@ pub(super) fn digest(table: Vec<u32>) -> String {
     let with_cell =
         |digest: u64, cell: u32| (2_654_435_761 * digest + u64::from(cell)) % 4_294_967_291;
     table.into_iter().fold(0, with_cell).to_string()
+}
+
+#[cfg(test)]
+mod tests {
+    use super::*;
+
+    #[test]
+    fn the_suite_has_each_cage() {
+        let lists: [&[&str]; 4] = [&TO_DEPTH_3, &TO_DEPTH_2, &REFUSED, &LARGE];
+        for name in lists.concat() {
+            assert!(cage_named(name).is_some(), "{name}");
+        }
+    }
 }

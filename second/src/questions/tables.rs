@@ -2,10 +2,8 @@
 //! document 01 on the three tables alone. A line holds the kind, V and the
 //! tables TWIN, VERT and EDGE.
 
-use std::collections::HashSet;
-
 use super::check::count_numbers;
-use super::{question_line, read_number, read_table, table_line, Unread};
+use super::{question_line, read_number, read_table, table_line, without_repeats, Unread};
 use crate::bare::{check_bare, BareCage};
 use crate::cage::VERTEX_LIMIT;
 use crate::refusal::Refusal;
@@ -36,9 +34,7 @@ pub fn questions() -> String {
     let mut asked: Vec<BareCage> = small.map(|entry| BareCage::of(&entry.cage)).collect();
     asked.extend(large.map(|cage| BareCage::of(&cage)));
     asked.extend(other_vertex_counts());
-    let mut lines = HashSet::new();
-    let asked = asked.iter().map(tables_question);
-    asked.filter(|line| lines.insert(line.clone())).collect()
+    without_repeats(asked.iter().map(tables_question))
 }
 
 fn tables_question(bare: &BareCage) -> String {
@@ -83,4 +79,16 @@ pub(super) fn answer(unread: &mut Unread) -> Option<Result<[u64; 5], Refusal>> {
     let vertices = read_number(unread)?;
     let bare = read_tables(unread, vertices)?;
     Some(check_bare(&bare).map(count_numbers))
+}
+
+#[cfg(test)]
+mod tests {
+    use super::*;
+
+    #[test]
+    fn the_suite_has_each_cage() {
+        for name in LARGE {
+            assert!(cage_named(name).is_some(), "{name}");
+        }
+    }
 }
