@@ -12,15 +12,19 @@ use crate::suite::{cage_named, suite};
 /// What a line of this kind starts with.
 pub const KIND: u32 = 4;
 
-/// The large cages that are asked for: accepted ones of 3,072 halfedges,
-/// without and with borders, one above the limit, and some with a fault.
-const LARGE: [&str; 7] = [
+/// The large cages that are asked for: accepted ones at the limits, without
+/// and with borders, one above a limit, and some with a fault.
+const LARGE: [&str; 11] = [
     "torus-32x16-disguised",
+    "disc-1024-disguised",
+    "most-vertices",
     "most-halfedges-and-vertices",
     "strip-1025",
     "torus-32x16-twin-lost-1407",
     "torus-32x16-vert-past-the-end-3071",
     "torus-32x16-edges-merged-1407",
+    "triangles-682-unused-2046",
+    "triangles-682-edge-carried-twice-2045",
     "triangles-682-fan-2042",
 ];
 
