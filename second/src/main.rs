@@ -7,10 +7,11 @@ use std::process::ExitCode;
 use second::file::write_cage_file;
 use second::lister::list_levels;
 use second::questions::check::check_numbers;
-use second::questions::{answer_line, answers, check, corners, counts};
+use second::questions::{answer_line, answers, check, corners, counts, refining, tables};
 use second::suite::{cage_named, suite, SuiteCage};
 
-const USAGE: &str = "usage: second questions counts|corners|check|check-large \
+const USAGE: &str = "usage: second questions \
+    counts|corners|check|check-large|tables|refining|refining-digests \
     | second answers | second list | second cage NAME | second suite";
 
 fn main() -> ExitCode {
@@ -57,6 +58,9 @@ fn output(words: &[&str]) -> Result<Vec<u8>, Trouble> {
         ["questions", "corners"] => corners::questions(),
         ["questions", "check"] => check::questions(),
         ["questions", "check-large"] => check::large_questions(),
+        ["questions", "tables"] => tables::questions(),
+        ["questions", "refining"] => refining::questions(),
+        ["questions", "refining-digests"] => refining::digest_questions(),
         ["answers"] => answers_to_input()?,
         ["list"] => list_levels(&standard_input()?),
         ["suite"] => suite().iter().map(suite_line).collect(),

@@ -64,7 +64,7 @@ fn a_cage_without_a_file_is_told() {
 
 #[test]
 fn each_question_has_an_answer() {
-    for kind in ["counts", "corners", "check"] {
+    for kind in ["counts", "corners", "check", "tables"] {
         let questions = printed(&["questions", kind], &[]);
         let answers = printed(&["answers"], questions.as_bytes());
         assert_eq!(questions.lines().count(), answers.lines().count());

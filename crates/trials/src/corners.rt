@@ -1,5 +1,6 @@
 // The corner question: the triangle, the table's length and its cells.
 use crate::show;
+use crate::tables;
 
 pub fn answer(text: &[u8], at: usize) -> usize {
     let triangle = questions::number_at(text, at);
@@ -23,7 +24,7 @@ fn answer_in(text: &[u8], at: usize, triangle: usize, length: usize, cells: &mut
 }
 
 fn answer_of(text: &[u8], at: usize, triangle: usize, table: &mut [u32]) -> usize {
-    let next = fill(text, at, table);
+    let next = tables::fill(text, at, table);
     let corners = halfedges::corners::corner_question(table, triangle);
     let said = corners.answer;
     let numbers = corners.corners;
@@ -32,16 +33,5 @@ fn answer_of(text: &[u8], at: usize, triangle: usize, table: &mut [u32]) -> usiz
     show::number(numbers[1] as usize);
     show::number(numbers[2] as usize);
     show::end();
-    next
-}
-
-// Fills a table with the numbers from a place on, and says where the next one starts.
-fn fill(text: &[u8], at: usize, table: &mut [u32]) -> usize {
-    let mut next = at;
-    for i in 0..table.len() {
-        let number = questions::number_at(text, next);
-        table[i] = (number.value % 4294967296) as u32;
-        next = number.next;
-    }
     next
 }

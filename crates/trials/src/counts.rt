@@ -14,10 +14,11 @@ pub fn answer(text: &[u8], at: usize) -> usize {
         vertices: vertices.value as usize,
     };
     show_counted(table.count(depth.value as usize));
+    show::end();
     depth.next
 }
 
-fn show_counted(counted: Counted) {
+pub fn show_counted(counted: Counted) {
     let said = counted.answer;
     let levels = counted.levels;
     let halfedges = levels.halfedges;
@@ -29,7 +30,6 @@ fn show_counted(counted: Counted) {
     show_seven(vertices);
     show::number(levels.halfedge_room);
     show::number(levels.vertex_room);
-    show::end();
 }
 
 fn show_seven(numbers: [usize; 7]) {

@@ -1,15 +1,41 @@
 // Answers each question of standard input on a line of its own, for comparison with the second
 // program. A question is a line of numbers, of which the first says what is asked.
+ghost use Prim.Native.Nat.{_≤_};
+ghost use lib.ListN.{length};
+
+mod check;
 mod corners;
 mod counts;
+mod input;
+mod refine;
+mod room;
 mod show;
-
-use libc::STDIN_FILENO;
+mod tables;
 
 fn main() {
-    let mut text = io::large_buffer();
-    let length = io::read_full(STDIN_FILENO, &mut text);
-    answer_all(&text[..length]);
+    let mut text = room::text();
+    answer_input(&mut text);
+}
+
+// Answers standard input part by part. It has a thousand parts at most, so that the program ends.
+fn answer_input(text: &mut [u8]) {
+    let mut kept = 0;
+    for part in 0..1000usize {
+        let length = input::refill(text, kept);
+        kept = answer_lines(&mut text[..length]);
+        if kept == length {
+            return;
+        }
+    }
+}
+
+// Answers the whole lines, moves the rest to the front and says how much that is.
+fn answer_lines(text: &mut [u8]) -> usize
+    ensures { λ r. ⌜ r ≤ length (now (text .exit)) ⌝ }
+{
+    let whole = input::whole_lines(text);
+    answer_all(&text[..whole]);
+    input::keep(text, whole)
 }
 
 fn answer_all(text: &[u8]) {
@@ -31,6 +57,15 @@ fn answer_at(text: &[u8], at: usize) -> usize {
     }
     if kind.value == 2 {
         return corners::answer(text, kind.next);
+    }
+    if kind.value == 4 {
+        return check::answer(text, kind.next);
+    }
+    if kind.value == 5 {
+        return refine::answer(text, kind.next, true);
+    }
+    if kind.value == 6 {
+        return refine::answer(text, kind.next, false);
     }
     kind.next
 }

@@ -49,14 +49,15 @@ pub(super) fn answer(unread: &mut Unread) -> Option<Result<[u64; 5], Refusal>> {
 
 /// The cage check's answer: H, E, F, V and B.
 pub fn check_numbers(cage: &Cage) -> Result<[u64; 5], Refusal> {
-    let numbers = |counts: CageCounts| {
-        [
-            counts.halfedges,
-            counts.edges,
-            counts.triangles,
-            counts.vertices,
-            counts.borders,
-        ]
-    };
-    check(cage).map(numbers)
+    check(cage).map(count_numbers)
+}
+
+pub(super) fn count_numbers(counts: CageCounts) -> [u64; 5] {
+    [
+        counts.halfedges,
+        counts.edges,
+        counts.triangles,
+        counts.vertices,
+        counts.borders,
+    ]
 }

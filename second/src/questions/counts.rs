@@ -39,7 +39,7 @@ pub(super) fn answer(unread: &mut Unread) -> Option<Result<[u64; 23], Refusal>> 
 }
 
 /// Seven H, seven E, seven V and the two sums.
-fn numbers_of(counts: &LevelCounts) -> [u64; 23] {
+pub(super) fn numbers_of(counts: &LevelCounts) -> [u64; 23] {
     let rows = [counts.halfedges, counts.edges, counts.vertices];
     let sums = [counts.halfedge_room, counts.vertex_room];
     let mut all = rows.into_iter().flatten().chain(sums);

@@ -5,7 +5,10 @@
 pub mod check;
 pub mod corners;
 pub mod counts;
+pub mod refining;
+pub mod tables;
 
+use std::collections::HashSet;
 use std::fmt::Display;
 use std::str::FromStr;
 
@@ -44,6 +47,9 @@ fn answer(unread: &mut Unread) -> Option<String> {
         counts::KIND => counts::answer(unread).map(answer_line),
         corners::KIND => corners::answer(unread).map(answer_line),
         check::KIND => check::answer(unread).map(answer_line),
+        tables::KIND => tables::answer(unread).map(answer_line),
+        refining::KIND => refining::answer(unread, joined),
+        refining::DIGEST_KIND => refining::answer(unread, refining::digest),
         _ => None,
     }
 }
@@ -51,6 +57,12 @@ fn answer(unread: &mut Unread) -> Option<String> {
 /// A question: its kind, then its numbers.
 fn question_line(kind: u32, numbers: &str) -> String {
     format!("{kind} {numbers}\n")
+}
+
+/// These lines in their order, each once.
+fn without_repeats(lines: impl Iterator<Item = String>) -> String {
+    let mut seen = HashSet::new();
+    lines.filter(|line| seen.insert(line.clone())).collect()
 }
 
 /// Number, place, and the numbers of the answer, all zero on a refusal.

@@ -1,0 +1,61 @@
+-- `fill` stores within the table, whose length stays.
+use borrow.Author.Needs.{needs}
+use Prim.Native.Nat.{_-_, _≤_}
+use mathlib.Core.Path.{_≡_}
+use lib.ListN.{length, length-set}
+use native.Mathlib.Omega.{arith}
+use Rattle.trials.proofs.tables.fill.Statement.{statement}
+use Rattle.trials.proofs.tables.fill.Tie as tie
+
+abbrev Inv-loop : tie.InvT-loop
+Inv-loop text at table₀ next₀ i₀ i-end table next i = (length table ≡ i-end) × (i-end ≡ length table₀) × (i ≤ i-end)
+
+abbrev μ-loop : tie.MeasureT-loop
+μ-loop text at table₀ next₀ i₀ i-end table next i = i-end - i
+
+loop-holds : tie.Need-loop-holds Inv-loop μ-loop
+loop-holds c = search needs
+
+number-at-requires : tie.Need-number-at-requires Inv-loop μ-loop
+number-at-requires c κs = search needs
+
+cast-table : tie.Need-cast-table Inv-loop μ-loop
+cast-table c = search needs
+
+mul-table : tie.Need-mul-table Inv-loop μ-loop
+mul-table c = search needs
+
+slice-write-table : tie.Need-slice-write-table Inv-loop μ-loop
+slice-write-table c = search needs
+
+add-i : tie.Need-add-i Inv-loop μ-loop
+add-i c = search needs
+
+loop-less : tie.Need-loop-less Inv-loop μ-loop
+loop-less c = search needs
+
+loop-again : tie.Need-loop-again Inv-loop μ-loop
+loop-again c = (simp length-set (omega arith), omega arith, omega arith)
+
+same-length : tie.Need-same-length Inv-loop μ-loop
+same-length c = search needs
+
+returns : tie.Need-returns Inv-loop μ-loop
+returns c = search needs
+
+pub fill-spec : {M : Type 1} → statement M
+fill-spec =
+    tie.close
+    (tie.spec
+    Inv-loop
+    μ-loop
+    loop-holds
+    number-at-requires
+    cast-table
+    mul-table
+    slice-write-table
+    add-i
+    loop-less
+    loop-again
+    same-length
+    returns)
