@@ -2,9 +2,14 @@
 use borrow.Author.Needs.{needs}
 use Prim.Native.Nat.{_-_, _≤_}
 use mathlib.Core.Path.{_≡_, sym, _∙_}
+use mathlib.Core.Bool.{false}
 use native.Mathlib.Omega.{arith}
-use lib.ListN.{length}
+use lib.IntN.{pos}
+use lib.ListN.{length, getD}
+use mir.Syntax.{w32}
 use borrow.Author.Count.{below-none, below-more}
+use Rattle.laws.proofs.Integers.{back-of}
+use Rattle.halfedges.specs.Refusals.{POINT}
 use Rattle.halfedges.proofs.Checks.{Clean, given-here, clean-done}
 use Rattle.points.specs.Operations.{outOfRange}
 use Rattle.cage.proofs.check_points.Statement.{statement}
@@ -32,7 +37,9 @@ returns : tie.Need-returns Inv-loop μ-loop
 unfolding outOfRange
 returns c =
     let i = c .before .before .before .before .loop in
-    let q = sym (c .before .out-of-range .ensures) ∙ c .if1 .taken in ?
+    let l = c .before .before .before .before .before .args .points .now in
+    let t = rw (back-of w32 (getD l (i .place) (pos 0)) (c .before .before .out-of-range-arg .given)) at (c .before .out-of-range .ensures) in
+    sym (given-here (length l) (outOfRange l) POINT (i .place) (search needs) (sym t ∙ c .if1 .taken) (i .inv .1))
 
 add-place : tie.Need-add-place Inv-loop μ-loop
 add-place c = search needs
@@ -44,7 +51,9 @@ loop-again : tie.Need-loop-again Inv-loop μ-loop
 unfolding outOfRange
 loop-again c =
     let i = c .before .before .before .before .loop in
-    (search needs, below-more (λ k. outOfRange _ k ≡ _) _ (i .inv .1) (sym (c .before .out-of-range .ensures) ∙ c .if1 .left))
+    let l = c .before .before .before .before .before .args .points .now in
+    let t = rw (back-of w32 (getD l (i .place) (pos 0)) (c .before .before .out-of-range-arg .given)) at (c .before .out-of-range .ensures) in
+    (search needs, below-more (λ k. outOfRange l k ≡ false) (i .place) (i .inv .1) (sym t ∙ c .if1 .left))
 
 returns-2 : tie.Need-returns-2 Inv-loop μ-loop
 returns-2 c = sym (clean-done _ _ _ (λ k l. c .before .loop .inv .1 k (omega arith)))
