@@ -104,7 +104,11 @@ pub fn digest_questions() -> String {
         &["triangle", "pillow", "tetrahedron"],
         DEPTH_LIMIT,
     ));
-    asked.extend(LARGE.iter().filter_map(|name| at_depth(&bare_named(name), 2)));
+    asked.extend(
+        LARGE
+            .iter()
+            .filter_map(|name| at_depth(&bare_named(name), 2)),
+    );
     asked.extend(short_tables("tetrahedron", 4));
     asked.extend(short_tables("octahedron", 5));
     asked.extend(short_tables("triangle", 6));

@@ -12,31 +12,14 @@ use crate::suite::{cage_named, suite};
 /// What a line of this kind starts with.
 pub const KIND: u32 = 4;
 
-/// The large cages that are asked for: accepted ones at the limits, without
-/// and with borders, one above a limit, and some with a fault.
-const LARGE: [&str; 11] = [
-    "torus-32x16-disguised",
-    "disc-1024-disguised",
-    "most-vertices",
-    "most-halfedges-and-vertices",
-    "strip-1025",
-    "torus-32x16-twin-lost-1407",
-    "torus-32x16-vert-past-the-end-3071",
-    "torus-32x16-edges-merged-1407",
-    "triangles-682-unused-2046",
-    "triangles-682-edge-carried-twice-2045",
-    "triangles-682-fan-2042",
-];
-
-/// The cages of the suite with at most 200 halfedges, some of the others, and
-/// some with another V. Tables that differ in their points alone are asked
-/// for once.
+/// The cages of the suite, and some with another V. Tables that differ in
+/// their points alone are asked for once.
 pub fn questions() -> String {
     let suite = suite();
-    let small = suite.iter().filter(|entry| !entry.is_large());
-    let large = LARGE.iter().filter_map(|name| cage_named(name));
-    let mut asked: Vec<BareCage> = small.map(|entry| BareCage::of(&entry.cage)).collect();
-    asked.extend(large.map(|cage| BareCage::of(&cage)));
+    let mut asked: Vec<BareCage> = suite
+        .iter()
+        .map(|entry| BareCage::of(&entry.cage))
+        .collect();
     asked.extend(other_vertex_counts());
     without_repeats(asked.iter().map(tables_question))
 }
@@ -90,9 +73,12 @@ mod tests {
     use super::*;
 
     #[test]
-    fn the_suite_has_each_cage() {
-        for name in LARGE {
-            assert!(cage_named(name).is_some(), "{name}");
+    fn every_cage_of_the_suite_is_asked() {
+        let questions = questions();
+        let asked: std::collections::HashSet<&str> = questions.split_inclusive('\n').collect();
+        for entry in suite() {
+            let question = tables_question(&BareCage::of(&entry.cage));
+            assert!(asked.contains(question.as_str()), "{}", entry.name);
         }
     }
 }
