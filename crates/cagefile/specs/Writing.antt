@@ -3,9 +3,10 @@ use Prim.Native.Nat.{ℕ}
 use mathlib.Core.List.{List, [], _∷_, _++_}
 use lib.IntN.{ℤ}
 use lib.ListN.{length}
-use Rattle.halfedges.specs.Refusals.{Verdict, short, first, Said, said, filled}
+use Rattle.halfedges.specs.Refusals.{Verdict, told, short, first, Said, said, filled}
 use Rattle.connectivity.specs.Tables.{Tables}
 use Rattle.points.specs.Operations.{cageChecks}
+use Rattle.cagefile.specs.declared.writing.Writing.{Writing}
 use Rattle.cagefile.specs.Fields.{file}
 
 -- "Writing gives 1 to 9"
@@ -21,3 +22,7 @@ unfoldable pub writeFile : Tables → List ℤ → List ℕ → Written
 writeFile c points lent =
     let verdict = writeVerdict c points lent in
     record { answer = said verdict (length (file c points)) 0; file = filled verdict (file c points) lent }
+
+-- what the code's answer says
+abbrev pub wrote : Writing → Said ℕ
+wrote r = record { verdict = told (r .answer); values = r .length }

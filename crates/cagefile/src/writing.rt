@@ -4,12 +4,19 @@ ghost use mathlib.Core.List.{[], _∷_, map, flatMap};
 ghost use Prim.Native.Nat.{_+_, _*_, _≤_, _<_};
 ghost use lib.ListN.{length};
 ghost use Rattle.laws.specs.Parts.{inFront, splice};
-ghost use Rattle.halfedges.specs.Refusals.{DONE};
+ghost use Rattle.halfedges.specs.Refusals.{DONE, told};
 ghost use Rattle.connectivity.specs.Tables.{tables};
 ghost use Rattle.cagefile.specs.Fields.{u16, u32, twos, opening, field, file as Fields·file};
-ghost use Rattle.cagefile.specs.Writing.{writeVerdict};
+ghost use Rattle.cagefile.specs.Writing.{writeVerdict, writeFile, wrote};
 use crate::fields;
 use crate::numbers;
+use halfedges::answer::Answer;
+
+// The answer of writing: the file's length where it is done, zero where it refuses.
+pub struct Writing {
+    pub answer: Answer,
+    pub length: usize,
+}
 
 // A field's head: its tag, and how many bytes follow it.
 fn put_head(file: &mut [u8], at: usize, tag: u8, size: u32)
@@ -111,4 +118,32 @@ fn write_fields(file: &mut [u8], twin: &[u32], vert: &[u32], edge: &[u32], point
     let end_at = write_points(&mut *file, points_at, points);
     put_head(&mut *file, end_at, fields::END, 0);
     end_at + fields::HEAD
+}
+
+// Checks 1 to 8, and then the room.
+fn refusal(twin: &[u32], vert: &[u32], edge: &[u32], points: &[i32], file: &[u8]) -> Answer
+    ensures { λ r. ⌜ told r ≡ writeVerdict (tables (now (twin .entry)) (now (vert .entry)) (now (edge .entry))) (now (points .entry)) (now (file .entry)) ⌝ }
+{
+    let answer = cage::check_for_depth(twin, vert, edge, points, 0);
+    if answer.number() != 0 {
+        return answer;
+    }
+    if file.len() < 24 + 6 * twin.len() + 12 * (points.len() / 3) {
+        return Answer::Room(5);
+    }
+    Answer::Done
+}
+
+// Writes a cage's file into a lent file: all checks first, then the fields.
+pub fn write(twin: &[u32], vert: &[u32], edge: &[u32], points: &[i32], file: &mut [u8]) -> Writing
+    ensures { λ r.
+        let after = writeFile (tables (now (twin .entry)) (now (vert .entry)) (now (edge .entry))) (now (points .entry)) (now (file .entry)) in
+        ⌜ (wrote r ≡ after .answer) × (now (file .exit) ≡ after .file) ⌝ }
+{
+    let answer = refusal(twin, vert, edge, points, file);
+    if answer.number() != 0 {
+        return Writing { answer, length: 0 };
+    }
+    let length = write_fields(file, twin, vert, edge, points);
+    Writing { answer, length }
 }
