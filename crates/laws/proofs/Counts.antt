@@ -1,6 +1,5 @@
 -- Laws of counts below n. Assumes nothing.
 --     count-at-most     at most n
---     count-none        none passes
 --     count-one         just one number is h
 --     count-split       where each that passes one test passes just one of two others
 --     any-count         one passes where the count is not 0
@@ -13,14 +12,11 @@ use lib.Dec.{eqb}
 use borrow.Author.Tests.{ne-eqb}
 use Rattle.laws.specs.Below.{count, any}
 use Rattle.laws.proofs.Tests.{by-test, or-true, or-false-right}
-use Rattle.laws.proofs.Sums.{sum-none, sum-at}
+use Rattle.laws.proofs.Sums.{sum-at}
 
 pub count-at-most : (n : ℕ) (p : ℕ → Bool) → count n p ≤ n
 count-at-most zero p = omega arith
 count-at-most (suc n) p = by-test (p n) (λ e. rw e (omega (arith, count-at-most n p))) (λ e. rw e (omega (arith, count-at-most n p)))
-
-pub count-none : (n : ℕ) (p : ℕ → Bool) → ((k : ℕ) → k < n → p k ≡ false) → count n p ≡ 0
-count-none n p e = sum-none n (λ k. cond (p k) 1 0) (λ k l. rw (e k l))
 
 pub count-one : (n h : ℕ) → h < n → count n (λ k. eqb k h) ≡ 1
 count-one n h l = sum-at n h (λ k. 1) l
