@@ -26,7 +26,7 @@ module _ (c : Tables) (points : List ℤ) (depth : ℕ) where
 
   module _ (w : length points % 3 ≡ 0) where
     -- checks 1 to 7, and then 8
-    checks-then : cageChecks c points depth ≡ tableChecks c (vertices points) depth ++ (givenAt (length points) (outOfRange points) POINT ∷ [])
+    pub checks-then : cageChecks c points depth ≡ tableChecks c (vertices points) depth ++ (givenAt (length points) (outOfRange points) POINT ∷ [])
     unfolding cageChecks tableChecks
     checks-then = rw (eq-eqb (length points % 3) 0 w, or-false-right (misshapen c))
 

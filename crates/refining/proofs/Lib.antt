@@ -1,1 +1,3 @@
 pub mod Relying
+pub mod Refined
+pub mod Readied

@@ -1,1 +1,100 @@
-// The cage check and refining, with points.
+// Refining a cage: levels 0 to the depth end to end in four lent tables.
+ghost use mathlib.Core.Path.{_≡_};
+ghost use Prim.Native.Nat.{_≤_};
+ghost use lib.ListN.{length};
+ghost use Rattle.laws.specs.Parts.{inFront};
+ghost use Rattle.halfedges.specs.Refusals.{told};
+ghost use Rattle.halfedges.specs.Counts.{counted};
+ghost use Rattle.connectivity.specs.Tables.{tables};
+ghost use Rattle.points.specs.Operations.{refineVerdict, refineCage};
+use connectivity::refine::counts_of;
+use connectivity::refine::fill;
+use connectivity::refine::short_table;
+use halfedges::answer::Answer;
+use halfedges::table::Counted;
+use points::levels::refine_points;
+
+// Refines a cage into four lent tables: all checks first, then the tables, then the points above them.
+pub fn refine(
+    cage_twin: &[u32],
+    cage_vert: &[u32],
+    cage_edge: &[u32],
+    cage_points: &[i32],
+    depth: usize,
+    twin: &mut [u32],
+    vert: &mut [u32],
+    edge: &mut [u32],
+    points: &mut [i32],
+) -> Counted
+    ensures { λ r.
+        let after = refineCage (tables (now («cage_twin» .entry)) (now («cage_vert» .entry)) (now («cage_edge» .entry))) (now («cage_points» .entry)) depth (tables (now (twin .entry)) (now (vert .entry)) (now (edge .entry))) (now (points .entry)) in
+        ⌜ (counted r ≡ after .answer) × (tables (now (twin .exit)) (now (vert .exit)) (now (edge .exit)) ≡ after .lent) × (now (points .exit) ≡ after .points) ⌝ }
+{
+    let answer = plan(
+        cage_twin,
+        cage_vert,
+        cage_edge,
+        cage_points,
+        depth,
+        twin,
+        vert,
+        edge,
+        points,
+    );
+    if answer.number() != 0 {
+        return Counted::refused(answer);
+    }
+    let table = counts_of(cage_twin, cage_points.len() / 3);
+    fill(
+        cage_twin,
+        cage_vert,
+        cage_edge,
+        table,
+        depth,
+        twin,
+        vert,
+        edge,
+    );
+    copy(cage_points, points);
+    refine_points(table, depth, twin, vert, edge, points);
+    table.count(depth)
+}
+
+// Checks 1 to 8 of any cage, and then the room of the lent tables.
+fn plan(
+    cage_twin: &[u32],
+    cage_vert: &[u32],
+    cage_edge: &[u32],
+    cage_points: &[i32],
+    depth: usize,
+    twin: &[u32],
+    vert: &[u32],
+    edge: &[u32],
+    points: &[i32],
+) -> Answer
+    ensures { λ r. ⌜ told r ≡ refineVerdict (tables (now («cage_twin» .entry)) (now («cage_vert» .entry)) (now («cage_edge» .entry))) (now («cage_points» .entry)) depth (tables (now (twin .entry)) (now (vert .entry)) (now (edge .entry))) (now (points .entry)) ⌝ }
+{
+    let cage = cage::check_for_depth(cage_twin, cage_vert, cage_edge, cage_points, depth);
+    if cage.number() != 0 {
+        return cage;
+    }
+    let levels = counts_of(cage_twin, cage_points.len() / 3).levels(depth);
+    let short = short_table(levels.halfedge_room, twin, vert, edge);
+    if short.number() != 0 {
+        return short;
+    }
+    if points.len() < 3 * levels.vertex_room {
+        return Answer::Room(4);
+    }
+    Answer::Done
+}
+
+// Copies a cage's points to the front of a table.
+fn copy(from: &[i32], to: &mut [i32])
+    requires { ⌜ length (now from) ≤ length (now to) ⌝ }
+    ensures { λ _. ⌜ now (to .exit) ≡ inFront (now (from .entry)) (now (to .entry)) ⌝ }
+{
+    for place in 0..from.len() {
+        to[place] = from[place];
+    }
+}

@@ -1,0 +1,96 @@
+-- The tables of all levels, and a table with the cage's points in front, are ready for the points of all levels (`readied`), which
+-- cover the cage's (`covered`). Assumes nothing.
+use Prim.Native.Nat.{ℕ, zero, suc, _*_, _/_, _%_, _≤_, _<_}
+use mathlib.Core.Path.{_≡_, refl, sym, ap, _∙_}
+use mathlib.Core.List.{List, _++_}
+use native.Mathlib.Omega.{arith}
+use lib.IntN.{ℤ}
+use lib.ListN.{length, take, drop}
+use lib.Seq.{take-append-seam}
+use Rattle.laws.specs.Below.{endToEnd, sum}
+use Rattle.laws.specs.Parts.{part, inFront}
+use Rattle.laws.proofs.Parts.{length-inFront}
+use Rattle.laws.proofs.InFront.{part-inFront, inFront-over}
+use Rattle.laws.proofs.Sums.{sum-grows}
+use Rattle.laws.proofs.Tabulate.{length-tabulate}
+use Rattle.laws.proofs.EndToEnd.{part-of, length-multiples}
+use Rattle.halfedges.specs.declared.table.HalfedgeTable.{HalfedgeTable}
+use Rattle.halfedges.specs.Refusals.{DONE}
+use Rattle.halfedges.specs.Counts.{countsAt, Hs, Vs, roomV}
+use Rattle.connectivity.specs.Tables.{Tables, tables, countsOf}
+use Rattle.connectivity.specs.NextLevel.{level}
+use Rattle.connectivity.specs.InPlace.{Sound, tablesInFront}
+use Rattle.connectivity.specs.Operations.{levelsEndToEnd}
+use Rattle.connectivity.proofs.Soundness.{sound-at}
+use Rattle.connectivity.proofs.Granted.{Granted, granted}
+use Rattle.points.specs.NextPoints.{nextPoints, levelPoints}
+use Rattle.points.specs.Operations.{vertices, refineVerdict}
+use Rattle.points.specs.Levels.{ReadyLevels, cageOf, withLevels}
+use Rattle.refining.proofs.Relying.{relied}
+use Rattle.refining.proofs.Refined.{whole, tables-done, in-range, both-done, points-roomy}
+
+module _ (t : HalfedgeTable) (c : Tables) (s : Sound t c) (depth : ℕ) (x : Tables) where
+  -- one table: its levels f, of which the first has H cells
+  first-there : (f : ℕ → List ℕ) (xs : List ℕ) → length (f 0) ≡ t .halfedges → take (t .halfedges) (drop 0 (inFront (endToEnd (suc depth) f) xs)) ≡ f 0
+  first-there f xs e = rw (← e) (part-of f (suc depth) (inFront (endToEnd (suc depth) f) xs) (take-append-seam (endToEnd (suc depth) f) _) 0 (omega arith))
+
+  pub cage-there : cageOf t (tablesInFront (levelsEndToEnd t c depth) x) ≡ c
+  unfolding tablesInFront levelsEndToEnd level
+  cage-there =
+      λ i. tables
+      (first-there (λ d. level t c d .twin) (x .twin) (s .twin-long) i)
+      (first-there (λ d. level t c d .vert) (x .vert) (s .vert-long) i)
+      (first-there (λ d. level t c d .edge) (x .edge) (s .edge-long) i)
+
+module _ (c : Tables) (points : List ℤ) (depth : ℕ) (x : Tables) (xp : List ℤ) (e : refineVerdict c points depth x xp ≡ DONE) where
+  abbrev t : HalfedgeTable
+  t = countsOf c (vertices points)
+
+  g : Granted c (vertices points) depth
+  g = granted c (vertices points) depth (tables-done c points depth (both-done c points depth x xp e .0))
+
+  -- the points have whole triples
+  threes : 3 * vertices points ≡ length points
+  threes = omega (arith, whole c points depth (both-done c points depth x xp e .0))
+
+  points-there : take (3 * t .vertices) (inFront points xp) ≡ points
+  points-there = rw threes (part-inFront points xp)
+
+  -- the cage's points are part of the room
+  pub points-fit : length points ≤ 3 * roomV t depth
+  unfolding countsAt
+  points-fit = let w : sum 1 (Vs t) ≤ roomV t depth = sum-grows (Vs t) 1 (suc depth) (omega arith) in omega (arith, threes)
+
+  ready : ReadyLevels t depth (tablesInFront (levelsEndToEnd t c depth) x) (inFront points xp)
+  unfolding tablesInFront
+  ready =
+      record {
+        counts = g .small;
+        deep = g .shallow;
+        twins = rw (cage-there t c (g .sound) depth x) (take-append-seam (levelsEndToEnd t c depth .twin) _);
+        verts = rw (cage-there t c (g .sound) depth x) (take-append-seam (levelsEndToEnd t c depth .vert) _);
+        edges = rw (cage-there t c (g .sound) depth x) (take-append-seam (levelsEndToEnd t c depth .edge) _);
+        relied = λ d l. rw (cage-there t c (g .sound) depth x) (relied c (vertices points) depth (tables-done c points depth (both-done c points depth x xp e .0)) d (omega (arith, g .shallow)));
+        in-range = rw points-there (in-range c points depth (both-done c points depth x xp e .0));
+        room = rw (length-inFront points xp (omega (arith, points-fit, points-roomy c points depth x xp e))) (points-roomy c points depth x xp e);
+      }
+
+  level-long : (d : ℕ) → length (levelPoints t c points d) ≡ 3 * Vs t d
+  unfolding levelPoints countsAt nextPoints
+  level-long zero = sym threes
+  level-long (suc d) = length-tabulate _ _
+
+  levels-over : withLevels t depth (tablesInFront (levelsEndToEnd t c depth) x) (inFront points xp) ≡ inFront (endToEnd (suc depth) (levelPoints t c points)) xp
+  unfolding withLevels
+  levels-over =
+      rw (cage-there t c (g .sound) depth x, points-there)
+      (inFront-over points xp (endToEnd (suc depth) (levelPoints t c points))
+      (omega (arith, points-fit, length-multiples 3 (levelPoints t c points) (Vs t) (suc depth) (λ d l. level-long d))))
+
+  -- the same as the code has them
+  module _ {u : HalfedgeTable} {y : Tables} {z : List ℤ} (p : u ≡ t) (q : y ≡ tablesInFront (levelsEndToEnd t c depth) x) (r : z ≡ inFront points xp) where
+    pub readied : ReadyLevels u depth y z
+    readied = rw (p, q, r) ready
+
+    pub covered : withLevels u depth y z ≡ inFront (endToEnd (suc depth) (levelPoints t c points)) xp
+    covered = rw (p, q, r) levels-over

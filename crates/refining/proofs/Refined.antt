@@ -1,0 +1,121 @@
+-- What a cage has where checks 1 to 8 are done (`whole`, `tables-done`, `in-range`); the verdict of refining, as the code goes
+-- (`cage-refused`, `tables-short`, `points-short`, `all-roomy`); what it leaves where it is done (`both-done`, `tables-roomy`,
+-- `points-roomy`); and the outcome (`refine-refused`, `refine-done`). Assumes nothing.
+use Prim.Native.Nat.{ℕ, suc, _*_, _%_, _≤_, _<_}
+use mathlib.Core.Path.{_≡_, refl, sym, _∙_}
+use mathlib.Core.Logic.{_≢_}
+use mathlib.Core.List.{List, [], _∷_}
+use native.Mathlib.Omega.{arith}
+use lib.IntN.{ℤ}
+use lib.ListN.{length}
+use lib.Dec.{eqb, ltb}
+use borrow.Author.Tests.{eqb-true, ltb-false, not-false, ne-eqb, lt-ltb, le-ltb}
+use Rattle.laws.specs.Below.{endToEnd}
+use Rattle.laws.specs.Parts.{inFront}
+use Rattle.laws.proofs.Tests.{or-false}
+use Rattle.laws.proofs.Sums.{sum-at-most}
+use Rattle.halfedges.specs.declared.table.HalfedgeTable.{HalfedgeTable}
+use Rattle.halfedges.specs.Cage.{most-halfedges, most-depth}
+use Rattle.halfedges.specs.declared.answer.Answer.{Answer}
+use Rattle.halfedges.specs.Refusals.{Verdict, DONE, SHAPE, POINT, ROOM, told, given, givenAt, short, first, said, filled}
+use Rattle.halfedges.specs.Counts.{AtMost, Vs, roomH, roomV, refusedCount, countQuestion}
+use Rattle.halfedges.proofs.Growth.{levels-at-most}
+use Rattle.halfedges.proofs.Checks.{first-more, first-stops, done-both, done-passes, done-nowhere}
+use Rattle.halfedges.proofs.Told.{zero-done}
+use Rattle.connectivity.specs.Tables.{Tables, countsOf}
+use Rattle.connectivity.specs.Rules.{misshapen}
+use Rattle.connectivity.specs.InPlace.{tablesInFront}
+use Rattle.connectivity.specs.Operations.{tableChecks, shortTables, filledTables, levelsEndToEnd}
+use Rattle.connectivity.proofs.Granted.{granted}
+use Rattle.points.specs.NextPoints.{levelPoints}
+use Rattle.points.specs.Operations.{vertices, outOfRange, cageChecks, refineVerdict, refineCage}
+use Rattle.points.specs.Relied.{InRange}
+use Rattle.cage.proofs.CageChecks.{checks-then}
+
+module _ (c : Tables) (points : List ℤ) (depth : ℕ) (e : first (cageChecks c points depth) ≡ DONE) where
+  pub whole : length points % 3 ≡ 0
+  unfolding cageChecks
+  whole = eqb-true _ _ (not-false _ (or-false (misshapen c) _ (done-passes _ SHAPE _ refl e .0) .1))
+
+  parts : (first (tableChecks c (vertices points) depth) ≡ DONE) × (first (givenAt (length points) (outOfRange points) POINT ∷ []) ≡ DONE)
+  parts = done-both _ _ (rw (checks-then c points depth whole) at e)
+
+  pub tables-done : first (tableChecks c (vertices points) depth) ≡ DONE
+  tables-done = parts .0
+
+  pub in-range : InRange points
+  unfolding outOfRange
+  in-range i l = ltb-false _ _ (done-nowhere (length points) (outOfRange points) POINT [] (λ k. refl) (parts .1) .0 i l)
+
+-- the vertices of seven levels are no large number
+pub few-vertices : (t : HalfedgeTable) (depth : ℕ) → AtMost most-halfedges t → depth ≤ most-depth → roomV t depth ≤ 88080384
+few-vertices t depth a l =
+    omega (arith, sum-at-most (suc depth) 12582912 (Vs t) (λ d m. let b = levels-at-most most-halfedges 6 t a d (omega arith) in omega (arith, b .vertices)))
+
+module _ (c : Tables) (points : List ℤ) (depth : ℕ) (x : Tables) (xp : List ℤ) where
+  abbrev rooms : List Verdict
+  rooms = shortTables (roomH (countsOf c (vertices points)) depth) x
+
+  abbrev last : List Verdict
+  last = short 4 (3 * roomV (countsOf c (vertices points)) depth) (length xp) ∷ []
+
+  -- a tells the first of 1 to 8
+  module _ (a : Answer) {n : ℕ} (e : told a ≡ first (cageChecks c points depth)) (m : n ≡ told a .number) where
+    pub cage-refused : n ≢ 0 → told a ≡ refineVerdict c points depth x xp
+    unfolding refineVerdict
+    cage-refused r = first-stops _ _ (told a) e (λ z. r (m ∙ z))
+
+    pub cage-done : n ≡ 0 → first (cageChecks c points depth) ≡ DONE
+    cage-done z = sym e ∙ zero-done a (sym m ∙ z)
+
+  -- and b the first short table of the three
+  module _ (d : first (cageChecks c points depth) ≡ DONE) (b : Answer) {n : ℕ} (e : told b ≡ first rooms) (m : n ≡ told b .number) where
+    pub tables-short : n ≢ 0 → told b ≡ refineVerdict c points depth x xp
+    unfolding refineVerdict
+    tables-short r = first-stops rooms last (told b) e (λ z. r (m ∙ z)) ∙ sym (first-more (cageChecks c points depth) _ d)
+
+    module _ (z : n ≡ 0) where
+      room-left : first last ≡ refineVerdict c points depth x xp
+      unfolding refineVerdict
+      room-left = sym (first-more (cageChecks c points depth) _ d ∙ first-more rooms last (sym e ∙ zero-done b (sym m ∙ z)))
+
+      pub points-short : length xp < 3 * roomV (countsOf c (vertices points)) depth → ROOM 4 ≡ refineVerdict c points depth x xp
+      unfolding short given first
+      points-short l = rw (lt-ltb (length xp) (3 * roomV (countsOf c (vertices points)) depth) l) at room-left
+
+      pub all-roomy : 3 * roomV (countsOf c (vertices points)) depth ≤ length xp → DONE ≡ refineVerdict c points depth x xp
+      unfolding short given first
+      all-roomy l = rw (le-ltb (length xp) (3 * roomV (countsOf c (vertices points)) depth) l) at room-left
+
+  module _ (e : refineVerdict c points depth x xp ≡ DONE) where
+    pub both-done : (first (cageChecks c points depth) ≡ DONE) × (first rooms ≡ DONE) × (first last ≡ DONE)
+    unfolding refineVerdict
+    both-done = let p = done-both (cageChecks c points depth) _ e in let q = done-both rooms last (p .1) in (p .0, q .0, q .1)
+
+    pub tables-roomy : (roomH (countsOf c (vertices points)) depth ≤ length (x .twin)) × (roomH (countsOf c (vertices points)) depth ≤ length (x .vert)) × (roomH (countsOf c (vertices points)) depth ≤ length (x .edge))
+    unfolding shortTables short
+    tables-roomy =
+        let p = done-passes _ (ROOM 1) _ refl (both-done .1) in
+        let q = done-passes _ (ROOM 2) _ refl (p .1) in
+        let r = done-passes _ (ROOM 3) _ refl (q .1) in
+        (ltb-false _ _ (p .0), ltb-false _ _ (q .0), ltb-false _ _ (r .0))
+
+    pub points-roomy : 3 * roomV (countsOf c (vertices points)) depth ≤ length xp
+    unfolding short
+    points-roomy = ltb-false _ _ (done-passes _ (ROOM 4) _ refl (both-done .2) .0)
+
+    pub refine-done :
+        (countQuestion (countsOf c (vertices points)) depth ≡ refineCage c points depth x xp .answer)
+        × (tablesInFront (levelsEndToEnd (countsOf c (vertices points)) c depth) x ≡ refineCage c points depth x xp .lent)
+        × (inFront (endToEnd (suc depth) (levelPoints (countsOf c (vertices points)) c points)) xp ≡ refineCage c points depth x xp .points)
+    unfolding refineCage said filledTables filled tablesInFront
+    refine-done = rw (e, granted c (vertices points) depth (tables-done c points depth (both-done .0)) .counts) (refl, refl, refl)
+
+  -- a tells the verdict
+  module _ (a : Answer) {n : ℕ} (e : told a ≡ refineVerdict c points depth x xp) (m : n ≡ told a .number) where
+    pub told-done : n ≡ 0 → refineVerdict c points depth x xp ≡ DONE
+    told-done z = sym e ∙ zero-done a (sym m ∙ z)
+
+    pub refine-refused : n ≢ 0 → (refusedCount (told a) ≡ refineCage c points depth x xp .answer) × (x ≡ refineCage c points depth x xp .lent) × (xp ≡ refineCage c points depth x xp .points)
+    unfolding refineCage said filledTables filled
+    refine-refused r = rw (← e, ne-eqb (told a .number) 0 (λ z. r (m ∙ z))) (refl, refl, refl)
