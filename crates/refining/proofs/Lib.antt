@@ -1,3 +1,4 @@
 pub mod Relying
 pub mod Refined
 pub mod Readied
+pub mod Whole

@@ -1,18 +1,40 @@
 -- `refine` answers its checks, and else fills in the tables and the points above them.
 use borrow.Author.Needs.{needs}
 use mathlib.Core.Path.{_≡_, ap, _∙_}
+use mathlib.Core.List.{List}
 use native.Mathlib.Omega.{arith}
+use lib.IntN.{ℤ}
 use Rattle.halfedges.specs.declared.table.HalfedgeTable.{HalfedgeTable}
+use Rattle.halfedges.specs.Refusals.{DONE}
 use Rattle.halfedges.specs.Counts.{countQuestion}
-use Rattle.connectivity.specs.Tables.{tables}
+use Rattle.connectivity.specs.Tables.{Tables, tables}
 use Rattle.connectivity.specs.InPlace.{tablesInFront}
 use Rattle.connectivity.specs.Operations.{levelsEndToEnd}
 use Rattle.connectivity.proofs.Granted.{granted}
-use Rattle.points.specs.Operations.{vertices}
+use Rattle.points.specs.Operations.{vertices, refineVerdict}
 use Rattle.refining.proofs.Refined.{tables-done, both-done, tables-roomy, points-roomy, told-done, refine-refused, refine-done}
 use Rattle.refining.proofs.Readied.{points-fit, readied, covered}
 use Rattle.refining.proofs.refine.Statement.{statement}
 use Rattle.refining.proofs.refine.Tie as tie
+
+-- what is handed over and lent
+module _ (s : tie.Start) where
+  abbrev cage : Tables
+  cage = tables (s .args .cage-twin .now) (s .args .cage-vert .now) (s .args .cage-edge .now)
+
+  abbrev points : List ℤ
+  points = s .args .cage-points .now
+
+  abbrev lent : Tables
+  lent = tables (s .args .twin .now) (s .args .vert .now) (s .args .edge .now)
+
+-- where the plan is done
+module _ (i : tie.Else1) where
+  abbrev start : tie.Start
+  start = i .before .before .before .before .before .before .before .before .before .before .before .before .before
+
+  done : refineVerdict (cage start) (points start) (start .args .depth) (lent start) (start .args .points .now) ≡ DONE
+  done = let p = i .before .before in told-done (cage start) (points start) (start .args .depth) (lent start) (start .args .points .now) (p .plan .result) (p .plan .ensures) (i .before .number .ensures) (i .if1 .left)
 
 plan-requires : tie.Need-plan-requires
 plan-requires c κs = search needs
@@ -47,44 +69,23 @@ counts-of-requires c κs = search needs
 fill-requires : tie.Need-fill-requires
 fill-requires c κs =
     let i = c .before .before .before .before in
-    let p = i .before .before in
-    let s = p .before .before .before .before .before .before .before .before .before .before .before in
-    let cage = tables (s .args .cage-twin .now) (s .args .cage-vert .now) (s .args .cage-edge .now) in
-    let points = s .args .cage-points .now in
-    let depth = s .args .depth in
-    let x = tables (s .args .twin .now) (s .args .vert .now) (s .args .edge .now) in
-    let xp = s .args .points .now in
-    let d = told-done cage points depth x xp (p .plan .result) (p .plan .ensures) (i .before .number .ensures) (i .if1 .left) in
-    let g = granted cage (vertices points) depth (tables-done cage points depth (both-done cage points depth x xp d .0)) in
-    rw (c .before .before .before .counts-of .ensures) (g .sound, ((g .small, g .shallow), tables-roomy cage points depth x xp d))
+    let s = start i in
+    let g = granted (cage s) (vertices (points s)) (s .args .depth) (tables-done (cage s) (points s) (s .args .depth) (both-done (cage s) (points s) (s .args .depth) (lent s) (s .args .points .now) (done i) .0)) in
+    rw (c .before .before .before .counts-of .ensures) (g .sound, ((g .small, g .shallow), tables-roomy (cage s) (points s) (s .args .depth) (lent s) (s .args .points .now) (done i)))
 
 copy-requires : tie.Need-copy-requires
 copy-requires c κs =
     let i = c .before .before .before .before .before .before .before .before .before .before .before .before in
-    let p = i .before .before in
-    let s = p .before .before .before .before .before .before .before .before .before .before .before in
-    let cage = tables (s .args .cage-twin .now) (s .args .cage-vert .now) (s .args .cage-edge .now) in
-    let points = s .args .cage-points .now in
-    let depth = s .args .depth in
-    let x = tables (s .args .twin .now) (s .args .vert .now) (s .args .edge .now) in
-    let xp = s .args .points .now in
-    let d = told-done cage points depth x xp (p .plan .result) (p .plan .ensures) (i .before .number .ensures) (i .if1 .left) in
-    omega (arith, points-fit cage points depth x xp d, points-roomy cage points depth x xp d)
+    let s = start i in
+    omega (arith, points-fit (cage s) (points s) (s .args .depth) (lent s) (s .args .points .now) (done i), points-roomy (cage s) (points s) (s .args .depth) (lent s) (s .args .points .now) (done i))
 
 refine-points-requires : tie.Need-refine-points-requires
 refine-points-requires c κs =
     let i = c .before .before .before .before .before .before .before .before .before .before .before .before .before .before .before .before .before .before in
-    let p = i .before .before in
-    let s = p .before .before .before .before .before .before .before .before .before .before .before in
-    let cage = tables (s .args .cage-twin .now) (s .args .cage-vert .now) (s .args .cage-edge .now) in
-    let points = s .args .cage-points .now in
-    let depth = s .args .depth in
-    let x = tables (s .args .twin .now) (s .args .vert .now) (s .args .edge .now) in
-    let xp = s .args .points .now in
-    let d = told-done cage points depth x xp (p .plan .result) (p .plan .ensures) (i .before .number .ensures) (i .if1 .left) in
+    let s = start i in
     let f = c .before .before .before .before .before .before .before .before .before .before .before .before .before in
     let e = c .before .before .before .before .before .before .before .before .before .before .before .before .before .before .before .before .before .counts-of .ensures in
-    readied cage points depth x xp d e (f .fill .ensures ∙ ap (λ (t : HalfedgeTable). tablesInFront (levelsEndToEnd t cage depth) x) e) (c .before .before .before .before .before .copy .ensures)
+    readied (cage s) (points s) (s .args .depth) (lent s) (s .args .points .now) (done i) e (f .fill .ensures ∙ ap (λ (t : HalfedgeTable). tablesInFront (levelsEndToEnd t (cage s) (s .args .depth)) (lent s)) e) (c .before .before .before .before .before .copy .ensures)
 
 count-requires : tie.Need-count-requires
 count-requires c κs = search needs
@@ -104,21 +105,14 @@ same-length-8 c = search needs
 returns-2 : tie.Need-returns-2
 returns-2 c =
     let i = c .before .before .before .before .before .before .before .before .before .before .before .before .before .before .before .before .before .before .before .before .before in
-    let p = i .before .before in
-    let s = p .before .before .before .before .before .before .before .before .before .before .before in
-    let cage = tables (s .args .cage-twin .now) (s .args .cage-vert .now) (s .args .cage-edge .now) in
-    let points = s .args .cage-points .now in
-    let depth = s .args .depth in
-    let x = tables (s .args .twin .now) (s .args .vert .now) (s .args .edge .now) in
-    let xp = s .args .points .now in
-    let d = told-done cage points depth x xp (p .plan .result) (p .plan .ensures) (i .before .number .ensures) (i .if1 .left) in
+    let s = start i in
     let f = c .before .before .before .before .before .before .before .before .before .before .before .before .before .before .before .before in
     let e = c .before .before .before .before .before .before .before .before .before .before .before .before .before .before .before .before .before .before .before .before .counts-of .ensures in
-    let filled = f .fill .ensures ∙ ap (λ (t : HalfedgeTable). tablesInFront (levelsEndToEnd t cage depth) x) e in
-    let r = refine-done cage points depth x xp d in (
-      c .count .ensures ∙ ap (λ t. countQuestion t depth) e ∙ r .0,
+    let filled = f .fill .ensures ∙ ap (λ (t : HalfedgeTable). tablesInFront (levelsEndToEnd t (cage s) (s .args .depth)) (lent s)) e in
+    let r = refine-done (cage s) (points s) (s .args .depth) (lent s) (s .args .points .now) (done i) in (
+      c .count .ensures ∙ ap (λ t. countQuestion t (s .args .depth)) e ∙ r .0,
       filled ∙ r .1,
-      c .before .before .refine-points .ensures ∙ covered cage points depth x xp d e filled (c .before .before .before .before .before .before .before .before .copy .ensures) ∙ r .2,
+      c .before .before .refine-points .ensures ∙ covered (cage s) (points s) (s .args .depth) (lent s) (s .args .points .now) (done i) e filled (c .before .before .before .before .before .before .before .before .copy .ensures) ∙ r .2,
     )
 
 pub refine-spec : {M : Type 1} → statement M

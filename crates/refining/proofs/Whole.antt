@@ -1,0 +1,33 @@
+-- Demand 3, of every cage that checks 1 to 8 accept, at every depth: `accepted-whole`. Assumes nothing.
+use Prim.Native.Nat.{ℕ, _≤_}
+use mathlib.Core.Path.{_≡_, sym, _∙_}
+use mathlib.Core.List.{List}
+use native.Mathlib.Nat.{le-refl}
+use native.Mathlib.Omega.{arith}
+use lib.IntN.{ℤ}
+use borrow.Author.Tests.{le-ltb}
+use Rattle.halfedges.specs.Cage.{most-depth}
+use Rattle.halfedges.specs.Refusals.{DONE, POINT, first}
+use Rattle.halfedges.proofs.Checks.{first-more, given-alone, clean-done}
+use Rattle.connectivity.specs.Tables.{Tables, countsOf}
+use Rattle.invariance.proofs.Levels.{accepted}
+use Rattle.points.specs.Operations.{vertices, outOfRange, cageChecks}
+use Rattle.points.proofs.Range.{levels-in-range}
+use Rattle.refining.specs.Whole.{pointsOf, WholeInvariant}
+use Rattle.refining.proofs.Relying.{relied}
+use Rattle.refining.proofs.Refined.{tables-done, in-range}
+
+pub accepted-whole : (c : Tables) (points : List ℤ) (depth : ℕ) → first (cageChecks c points depth) ≡ DONE → (d : ℕ) → d ≤ most-depth → WholeInvariant c points d
+unfolding outOfRange
+accepted-whole c points depth e d l =
+    let done = tables-done c points depth e in
+    let kept = accepted c (vertices points) depth done d l in
+    let range = levels-in-range (countsOf c (vertices points)) c points d (λ k m. relied c (vertices points) depth done k (omega arith)) (in-range c points depth e) d (le-refl _) in
+    record {
+      tables = kept;
+      in-range = range;
+      passes =
+          first-more _ _ (kept .passes)
+          ∙ sym (given-alone _ (outOfRange (pointsOf c points d)) POINT (λ k. omega arith))
+          ∙ clean-done _ (outOfRange (pointsOf c points d)) POINT (λ k m. le-ltb _ _ (range k m));
+    }
