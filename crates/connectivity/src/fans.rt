@@ -20,9 +20,9 @@ pub fn check_fans(twin: &[u32], vert: &[u32], vertices: usize) -> Answer
     requires { ⌜ (length (now twin) % 3 ≡ 0) × (length (now vert) ≡ length (now twin)) × (length (now twin) ≤ most-halfedges) × (vertices ≤ most-vertices) ⌝ }
     ensures { λ r. ⌜ told r ≡ givenAt vertices (notOneFan (now (twin .entry)) (now (vert .entry))) FAN ⌝ }
 {
-    let mut kept = [0u32; 2048];
+    let mut kept = [0u32; HalfedgeTable::MOST_VERTICES];
     keep_corners(vert, &mut kept);
-    let mut corners = [0u32; 2048];
+    let mut corners = [0u32; HalfedgeTable::MOST_VERTICES];
     count_numbers(vert, &mut corners);
     first_not_one_fan(&kept, &corners, twin, vert, vertices)
 }

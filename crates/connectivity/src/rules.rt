@@ -110,7 +110,7 @@ pub fn check_uses(vert: &[u32], vertices: usize) -> Answer
     requires { ⌜ (length (now vert) ≤ most-halfedges) × (vertices ≤ most-vertices) ⌝ }
     ensures { λ r. ⌜ told r ≡ givenAt vertices (unused (now (vert .entry))) UNUSED ⌝ }
 {
-    let mut corners = [0u32; 2048];
+    let mut corners = [0u32; HalfedgeTable::MOST_VERTICES];
     count_numbers(vert, &mut corners);
     first_unused(&corners, vert, vertices)
 }
@@ -166,7 +166,7 @@ pub fn check_edges(twin: &[u32], edge: &[u32]) -> Answer
     ensures { λ r. ⌜ told r ≡ givenAt (length (now (twin .entry))) (badEdge (now (twin .entry)) (now (edge .entry)) (E (now (twin .entry)))) EDGE ⌝ }
 {
     let edges = count_edges(twin);
-    let mut carriers = [0u32; 3072];
+    let mut carriers = [0u32; HalfedgeTable::MOST_HALFEDGES];
     count_numbers(edge, &mut carriers);
     first_bad_edge(&carriers, twin, edge, edges)
 }
