@@ -1,0 +1,3 @@
+pub mod CellPlaces
+pub mod Small
+pub mod Answers

@@ -1,0 +1,19 @@
+-- `ryebadger_check` puts the answer of the cage check in cells, which it fits.
+use borrow.Author.Needs.{needs}
+use mathlib.Core.Path.{_≡_, sym, ap, subst, _∙_}
+use Rattle.ryebadger.specs.Cells.{cells, Fitting}
+use Rattle.ryebadger.proofs.Answers.{check-fits}
+use Rattle.ryebadger.proofs.ryebadger_check.Statement.{statement}
+use Rattle.ryebadger.proofs.ryebadger_check.Tie as tie
+
+check-cage-requires : tie.Need-check-cage-requires
+check-cage-requires c κs = search needs
+
+of-check-requires : tie.Need-of-check-requires
+of-check-requires c κs = subst (λ s. Fitting (cells s)) (sym (c .check-cage .ensures)) (check-fits _ _)
+
+returns : tie.Need-returns
+returns c = c .of-check .ensures ∙ ap cells (c .before .check-cage .ensures)
+
+pub ryebadger-check-spec : {M : Type 1} → statement M
+ryebadger-check-spec = tie.close (tie.spec check-cage-requires of-check-requires returns)

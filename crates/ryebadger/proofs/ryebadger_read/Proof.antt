@@ -1,0 +1,41 @@
+-- `ryebadger_read` puts the answer of reading in cells, which it fits, and leaves what that leaves.
+use borrow.Author.Needs.{needs}
+use mathlib.Core.Path.{_≡_, sym, ap, subst, _∙_}
+use Rattle.connectivity.specs.Tables.{tables}
+use Rattle.ryebadger.specs.Cells.{cells, Fitting}
+use Rattle.ryebadger.proofs.Answers.{read-fits}
+use Rattle.ryebadger.proofs.ryebadger_read.Statement.{statement}
+use Rattle.ryebadger.proofs.ryebadger_read.Tie as tie
+
+read-requires : tie.Need-read-requires
+read-requires c κs = search needs
+
+of-reading-requires : tie.Need-of-reading-requires
+of-reading-requires c κs = subst (λ s. Fitting (cells s)) (sym (c .before .before .before .before .before .before .before .read .ensures .0)) (read-fits _ _ _)
+
+same-length : tie.Need-same-length
+same-length c = search needs
+
+same-length-2 : tie.Need-same-length-2
+same-length-2 c = search needs
+
+same-length-3 : tie.Need-same-length-3
+same-length-3 c = search needs
+
+same-length-4 : tie.Need-same-length-4
+same-length-4 c = search needs
+
+returns : tie.Need-returns
+returns c = let r = c .before .before .before .before .before .before .before .before .read .ensures in (c .of-reading .ensures ∙ ap cells (r .0), λ i. tables (r .1 i) (r .2 i) (r .3 i), r .4)
+
+pub ryebadger-read-spec : {M : Type 1} → statement M
+ryebadger-read-spec =
+    tie.close
+    (tie.spec
+    read-requires
+    of-reading-requires
+    same-length
+    same-length-2
+    same-length-3
+    same-length-4
+    returns)

@@ -1,0 +1,120 @@
+// The library for programs in C, C++ and Rust: each operation on numbers, slices and one lent answer.
+ghost use mathlib.Core.Path.{_≡_};
+ghost use Rattle.halfedges.specs.Counts.{countQuestion};
+ghost use Rattle.halfedges.specs.Corners.{cornerQuestion};
+ghost use Rattle.connectivity.specs.Tables.{tables};
+ghost use Rattle.points.specs.Operations.{checkCage, refineCage};
+ghost use Rattle.cagefile.specs.Reading.{readFile};
+ghost use Rattle.cagefile.specs.Writing.{writeFile};
+ghost use Rattle.ryebadger.specs.Cells.{cells as Cells·cells, lengthCells, levelCells};
+use cagefile::reading;
+use cagefile::writing;
+use halfedges::corners;
+use halfedges::table::HalfedgeTable;
+use refining;
+
+mod cells;
+
+// The cage check 1 to 8.
+#[no_mangle]
+pub extern "C" fn ryebadger_check(
+    twin: &[u32],
+    vert: &[u32],
+    edge: &[u32],
+    points: &[i32],
+    answer: &mut [u32; 7],
+)
+    ensures { λ _. ⌜ now (answer .exit) ≡ Cells·cells (checkCage (tables (now (twin .entry)) (now (vert .entry)) (now (edge .entry))) (now (points .entry))) ⌝ }
+{
+    let checked = cage::check_cage(twin, vert, edge, points);
+    *answer = cells::of_check(checked);
+}
+
+// The count question.
+#[no_mangle]
+pub extern "C" fn ryebadger_counts(
+    halfedges: usize,
+    edges: usize,
+    vertices: usize,
+    depth: usize,
+    answer: &mut [u32; 25],
+)
+    ensures { λ _. ⌜ now (answer .exit) ≡ levelCells (countQuestion (record { halfedges = halfedges; edges = edges; vertices = vertices }) depth) ⌝ }
+{
+    let table = HalfedgeTable {
+        halfedges,
+        edges,
+        vertices,
+    };
+    let counted = table.count(depth);
+    *answer = cells::of_counts(counted);
+}
+
+// Refining: levels 0 to the depth end to end in four lent tables.
+#[no_mangle]
+pub extern "C" fn ryebadger_refine(
+    twin: &[u32],
+    vert: &[u32],
+    edge: &[u32],
+    points: &[i32],
+    depth: usize,
+    twins: &mut [u32],
+    verts: &mut [u32],
+    edges: &mut [u32],
+    places: &mut [i32],
+    answer: &mut [u32; 25],
+)
+    ensures { λ _.
+        let after = refineCage (tables (now (twin .entry)) (now (vert .entry)) (now (edge .entry))) (now (points .entry)) depth (tables (now (twins .entry)) (now (verts .entry)) (now (edges .entry))) (now (places .entry)) in
+        ⌜ (now (answer .exit) ≡ levelCells (after .answer)) × (tables (now (twins .exit)) (now (verts .exit)) (now (edges .exit)) ≡ after .lent)
+        × (now (places .exit) ≡ after .points) ⌝ }
+{
+    let counted = refining::refine(twin, vert, edge, points, depth, twins, verts, edges, places);
+    *answer = cells::of_counts(counted);
+}
+
+// The corner question.
+#[no_mangle]
+pub extern "C" fn ryebadger_corners(vert: &[u32], triangle: usize, answer: &mut [u32; 5])
+    ensures { λ _. ⌜ now (answer .exit) ≡ Cells·cells (cornerQuestion (now (vert .entry)) triangle) ⌝ }
+{
+    let corners = corners::corner_question(vert, triangle);
+    *answer = cells::of_corners(corners);
+}
+
+// Reading a cage file into four lent tables.
+#[no_mangle]
+pub extern "C" fn ryebadger_read(
+    file: &[u8],
+    twin: &mut [u32],
+    vert: &mut [u32],
+    edge: &mut [u32],
+    points: &mut [i32],
+    answer: &mut [u32; 4],
+)
+    ensures { λ _.
+        let after = readFile (now (file .entry)) (tables (now (twin .entry)) (now (vert .entry)) (now (edge .entry))) (now (points .entry)) in
+        ⌜ (now (answer .exit) ≡ Cells·cells (after .answer)) × (tables (now (twin .exit)) (now (vert .exit)) (now (edge .exit)) ≡ after .lent)
+        × (now (points .exit) ≡ after .points) ⌝ }
+{
+    let reading = reading::read(file, twin, vert, edge, points);
+    *answer = cells::of_reading(reading);
+}
+
+// Writing a cage's file into a lent file.
+#[no_mangle]
+pub extern "C" fn ryebadger_write(
+    twin: &[u32],
+    vert: &[u32],
+    edge: &[u32],
+    points: &[i32],
+    file: &mut [u8],
+    answer: &mut [u32; 3],
+)
+    ensures { λ _.
+        let after = writeFile (tables (now (twin .entry)) (now (vert .entry)) (now (edge .entry))) (now (points .entry)) (now (file .entry)) in
+        ⌜ (now (answer .exit) ≡ lengthCells (after .answer)) × (now (file .exit) ≡ after .file) ⌝ }
+{
+    let writing = writing::write(twin, vert, edge, points, file);
+    *answer = cells::of_writing(writing);
+}
