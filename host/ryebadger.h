@@ -1,0 +1,123 @@
+/* Ryebadger for C and C++: check, quote, refine, read and write a triangle cage. The words, numbers and tables are those of
+ * document 01, the scope of the build; what each operation promises here is proved of it.
+ *
+ * The archive to link is target/host/libryebadger.a, which host/build makes.
+ *
+ * A cage is four tables. TWIN, VERT and EDGE hold a number for each halfedge, points x, y, z of each vertex in 1/1024 mm. A
+ * table is handed over as a pointer to its first cell and its length in cells. Tables that are only read are `const`; the
+ * others are lent, to be written.
+ *
+ * An operation answers for tables of any length with any cells. It uses no memory but its stack and what it is lent, and
+ * keeps nothing, so that any number of threads may call at once.
+ *
+ * The answer is an array of its own for each operation, of the length that stands in its declaration. All of it is written:
+ *   answer[0]  the number: 0 is done, any other is the refusal of that number
+ *   answer[1]  the place: 0 when done
+ *   the rest   the values: all 0 on a refusal
+ * A refusal alters nothing but the answer. Done, every cell that the operation does not promise to write is untouched.
+ *
+ * What the caller has to see to, since no operation can check it:
+ *   - A pointer is never null and is aligned for its cells, also with length 0. It need not point at memory then.
+ *   - As many cells as the length says can be read, and written where they are lent.
+ *   - What is lent overlaps nothing else that is handed over, and neither does the answer. Tables that are only read may
+ *     overlap each other. */
+#ifndef RYEBADGER_H
+#define RYEBADGER_H
+
+#include <stddef.h>
+#include <stdint.h>
+
+#ifdef __cplusplus
+extern "C" {
+#endif
+
+/* The TWIN cell of a halfedge that has no twin. */
+#define RYEBADGER_MARKER UINT32_C(4294967295)
+
+/* The limits: H, V and the depth at most these, each coordinate from minus the last of them to it. */
+#define RYEBADGER_MOST_HALFEDGES 3072
+#define RYEBADGER_MOST_VERTICES 2048
+#define RYEBADGER_MOST_DEPTH 6
+#define RYEBADGER_MOST_COORDINATE 1048576
+
+/* The levels of the deepest refinement, level 0 among them, and the bytes of the longest cage file. */
+#define RYEBADGER_LEVELS 7
+#define RYEBADGER_LONGEST_FILE 43032
+
+/* The numbers of an answer, by document 01's names, with the place that goes with each. Checks run in the order of their
+ * numbers, except in reading; the first that holds is the answer. */
+enum ryebadger_number {
+    RYEBADGER_DONE = 0,   /* 0 */
+    RYEBADGER_SHAPE = 1,  /* lengths or counts that no cage has: 0 */
+    RYEBADGER_LIMIT = 2,  /* H, V or the depth is above its limit: 0 */
+    RYEBADGER_TWIN = 3,   /* a twin that is none: the lowest such halfedge */
+    RYEBADGER_VERTEX = 4, /* a vertex out of range, or not where the next or the twin has it: the lowest such halfedge */
+    RYEBADGER_UNUSED = 5, /* a vertex on no halfedge: the lowest such vertex */
+    RYEBADGER_EDGE = 6,   /* an edge out of range, unlike the twin's or carried elsewhere: the lowest such halfedge */
+    RYEBADGER_FAN = 7,    /* corners at a vertex that are not one fan: the lowest such vertex */
+    RYEBADGER_POINT = 8,  /* a coordinate out of range: the lowest such index in the points */
+    RYEBADGER_ROOM = 9,   /* a lent table is too short: the first, as 1 twin, 2 vert, 3 edge, 4 points, 5 file */
+    RYEBADGER_SHORT = 10, /* the file ends before a field's head and payload are whole: the offset of that head */
+    RYEBADGER_FIELD = 11, /* wrong tag, length or form number: the offset of that head */
+    RYEBADGER_EXTRA = 12  /* bytes after the end field: the offset of the first */
+};
+
+/* The lengths of the answers. */
+#define RYEBADGER_CHECK_ANSWER 7
+#define RYEBADGER_COUNTS_ANSWER 25
+#define RYEBADGER_CORNERS_ANSWER 5
+#define RYEBADGER_READ_ANSWER 4
+#define RYEBADGER_WRITE_ANSWER 3
+
+/* Where the answer of the count question, which refining gives too, has its values: H, E and V of level 0, those of level d
+ * standing d cells further, and the room, which is the sums of H and of V over levels 0 to the depth. */
+enum ryebadger_counts_values {
+    RYEBADGER_AT_H = 2,
+    RYEBADGER_AT_E = 9,
+    RYEBADGER_AT_V = 16,
+    RYEBADGER_AT_H_ROOM = 23,
+    RYEBADGER_AT_V_ROOM = 24
+};
+
+/* The cage check: refusals 1 to 8. Done, the values are H, E, F, V and B of the cage. V is a third of the points' length, E
+ * and B are counted. */
+void ryebadger_check(const uint32_t *twin, size_t twin_length, const uint32_t *vert, size_t vert_length,
+                     const uint32_t *edge, size_t edge_length, const int32_t *points, size_t points_length,
+                     uint32_t answer[RYEBADGER_CHECK_ANSWER]);
+
+/* The count question: refusals 1 and 2. Done, the values are H of the seven levels, E of them and V of them, each 0 past the
+ * depth asked, then the room in halfedges and in vertices. */
+void ryebadger_counts(uint64_t halfedges, uint64_t edges, uint64_t vertices, uint64_t depth,
+                      uint32_t answer[RYEBADGER_COUNTS_ANSWER]);
+
+/* Refining: refusals 1 to 9. Done, levels 0 to the depth stand end to end from the front of the four lent tables, level 0
+ * being the cage, and the values are the count question's for this cage and depth. Needed is the room in halfedges in each
+ * of the first three lent tables and three times the room in vertices in the points; cells past that are untouched. */
+void ryebadger_refine(const uint32_t *twin, size_t twin_length, const uint32_t *vert, size_t vert_length,
+                      const uint32_t *edge, size_t edge_length, const int32_t *points, size_t points_length,
+                      uint64_t depth, uint32_t *lent_twin, size_t lent_twin_length, uint32_t *lent_vert,
+                      size_t lent_vert_length, uint32_t *lent_edge, size_t lent_edge_length, int32_t *lent_points,
+                      size_t lent_points_length, uint32_t answer[RYEBADGER_COUNTS_ANSWER]);
+
+/* The corner question: refusal 1. Done, the values are the triangle's three corner numbers, as stored in the table. */
+void ryebadger_corners(const uint32_t *vert, size_t vert_length, uint64_t triangle,
+                       uint32_t answer[RYEBADGER_CORNERS_ANSWER]);
+
+/* Reading a cage file: refusals 1, 2 and 9 to 12, in the order in which the file is read, 9 last. Done, the values are H and
+ * V, and the cage stands at the front of the lent tables; cells past H, or past 3V in the points, are untouched. The cage
+ * has not been checked: checks 3 to 8 are for ryebadger_check, ryebadger_refine and ryebadger_write. */
+void ryebadger_read(const uint8_t *file, size_t file_length, uint32_t *lent_twin, size_t lent_twin_length,
+                    uint32_t *lent_vert, size_t lent_vert_length, uint32_t *lent_edge, size_t lent_edge_length,
+                    int32_t *lent_points, size_t lent_points_length, uint32_t answer[RYEBADGER_READ_ANSWER]);
+
+/* Writing a cage file: refusals 1 to 9, where 9 has place 5. Done, the value is the file's length, which is 24 + 6H + 12V, and
+ * the file stands at the front of the lent buffer; bytes past it are untouched. */
+void ryebadger_write(const uint32_t *twin, size_t twin_length, const uint32_t *vert, size_t vert_length,
+                     const uint32_t *edge, size_t edge_length, const int32_t *points, size_t points_length,
+                     uint8_t *lent_file, size_t lent_file_length, uint32_t answer[RYEBADGER_WRITE_ANSWER]);
+
+#ifdef __cplusplus
+}
+#endif
+
+#endif
