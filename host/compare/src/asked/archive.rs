@@ -1,0 +1,43 @@
+//! The proved archive.
+
+use ryebadger::sys;
+use second::cage::Cage;
+
+use super::{handed, lent, Operations};
+
+/// The proved archive, through its raw functions.
+pub struct Archive;
+
+/// An answer whose cells hold something beforehand: all of them have to be
+/// written.
+fn answered<const N: usize>(ask: impl FnOnce(&mut [u32; N])) -> Vec<u64> {
+    let mut answer = [0xDEAD_BEEF; N];
+    ask(&mut answer);
+    answer.map(u64::from).to_vec()
+}
+
+impl Operations for Archive {
+    fn check(&self, cage: &Cage) -> Vec<u64> {
+        answered(|answer| sys::check(handed(cage), answer))
+    }
+
+    fn counts(&self, [h, e, v, depth]: [u64; 4]) -> Vec<u64> {
+        answered(|answer| sys::counts(h, e, v, depth, answer))
+    }
+
+    fn corners(&self, vert: &[u32], triangle: u64) -> Vec<u64> {
+        answered(|answer| sys::corners(vert, triangle, answer))
+    }
+
+    fn refine(&self, cage: &Cage, depth: u64, tables: &mut Cage) -> Vec<u64> {
+        answered(|answer| sys::refine(handed(cage), depth, &mut lent(tables), answer))
+    }
+
+    fn read(&self, file: &[u8], tables: &mut Cage) -> Vec<u64> {
+        answered(|answer| sys::read(file, &mut lent(tables), answer))
+    }
+
+    fn write(&self, cage: &Cage, lent_file: &mut [u8]) -> Vec<u64> {
+        answered(|answer| sys::write(handed(cage), lent_file, answer))
+    }
+}

@@ -1,0 +1,59 @@
+//! The three that are asked: the proved archive, the safe crate and the second
+//! program.
+
+mod archive;
+mod safe_crate;
+mod second_program;
+
+use second::cage::Cage;
+
+pub use archive::Archive;
+pub use safe_crate::SafeCrate;
+pub use second_program::SecondProgram;
+
+/// The six operations of document 01. Each gives the numbers of its answer:
+/// number, place and values.
+pub trait Operations {
+    fn check(&self, cage: &Cage) -> Vec<u64>;
+    fn counts(&self, numbers: [u64; 4]) -> Vec<u64>;
+    fn corners(&self, vert: &[u32], triangle: u64) -> Vec<u64>;
+    fn refine(&self, cage: &Cage, depth: u64, lent: &mut Cage) -> Vec<u64>;
+    fn read(&self, file: &[u8], lent: &mut Cage) -> Vec<u64>;
+    fn write(&self, cage: &Cage, lent_file: &mut [u8]) -> Vec<u64>;
+}
+
+/// The second program's tables, as the host library takes them.
+pub fn handed(cage: &Cage) -> ryebadger::Cage<'_> {
+    ryebadger::Cage {
+        twin: &cage.twin,
+        vert: &cage.vert,
+        edge: &cage.edge,
+        points: &cage.points,
+    }
+}
+
+/// The second program's tables, as the host library is lent them.
+fn lent(tables: &mut Cage) -> ryebadger::LentTables<'_> {
+    ryebadger::LentTables {
+        twin: &mut tables.twin,
+        vert: &mut tables.vert,
+        edge: &mut tables.edge,
+        points: &mut tables.points,
+    }
+}
+
+/// Number, place and values. Besides number and place everything in a refusal
+/// is zero.
+fn told<const N: usize>(answer: Result<[u64; N], [u64; 2]>) -> Vec<u64> {
+    let (verdict, values) = match answer {
+        Ok(values) => ([0, 0], values),
+        Err(refusal) => (refusal, [0; N]),
+    };
+    [&verdict[..], &values[..]].concat()
+}
+
+/// H, E and V of seven levels, then the room in halfedges and in vertices.
+fn level_numbers(levels: [[u64; 7]; 3], room: [u64; 2]) -> [u64; 23] {
+    let mut numbers = levels.into_iter().flatten().chain(room);
+    std::array::from_fn(|_| numbers.next().unwrap_or_default())
+}

@@ -1,0 +1,64 @@
+//! The safe crate.
+
+use ryebadger::{CageCounts, LevelCounts, Refusal};
+use second::cage::Cage;
+
+use super::{handed, lent, level_numbers, told, Operations};
+
+/// The safe crate, whose named results are told as numbers again.
+pub struct SafeCrate;
+
+impl Operations for SafeCrate {
+    fn check(&self, cage: &Cage) -> Vec<u64> {
+        let counts = |found: CageCounts| {
+            let (h, e, f) = (found.halfedges, found.edges, found.triangles);
+            [h, e, f, found.vertices, found.borders].map(u64::from)
+        };
+        let found = ryebadger::check(handed(cage));
+        told(found.map(counts).map_err(refusal_numbers))
+    }
+
+    fn counts(&self, [h, e, v, depth]: [u64; 4]) -> Vec<u64> {
+        let counts = ryebadger::counts(h, e, v, depth);
+        told(counts.map(counts_numbers).map_err(refusal_numbers))
+    }
+
+    fn corners(&self, vert: &[u32], triangle: u64) -> Vec<u64> {
+        let corners = ryebadger::corners(vert, triangle);
+        told(
+            corners
+                .map(|corners| corners.map(u64::from))
+                .map_err(refusal_numbers),
+        )
+    }
+
+    fn refine(&self, cage: &Cage, depth: u64, tables: &mut Cage) -> Vec<u64> {
+        let counts = ryebadger::refine(handed(cage), depth, &mut lent(tables));
+        told(counts.map(counts_numbers).map_err(refusal_numbers))
+    }
+
+    fn read(&self, file: &[u8], tables: &mut Cage) -> Vec<u64> {
+        let found = ryebadger::read(file, &mut lent(tables));
+        let counts = found.map(|found| [found.halfedges, found.vertices].map(u64::from));
+        told(counts.map_err(refusal_numbers))
+    }
+
+    fn write(&self, cage: &Cage, lent_file: &mut [u8]) -> Vec<u64> {
+        let length = ryebadger::write(handed(cage), lent_file);
+        told(
+            length
+                .map(|length| [length as u64])
+                .map_err(refusal_numbers),
+        )
+    }
+}
+
+fn refusal_numbers(refusal: Refusal) -> [u64; 2] {
+    [refusal.number().into(), refusal.place().into()]
+}
+
+fn counts_numbers(counts: LevelCounts) -> [u64; 23] {
+    let levels = [counts.halfedges, counts.edges, counts.vertices];
+    let room = [counts.halfedge_room, counts.vertex_room];
+    level_numbers(levels.map(|row| row.map(u64::from)), room.map(u64::from))
+}

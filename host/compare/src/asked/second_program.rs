@@ -1,0 +1,65 @@
+//! The second program.
+
+use second::cage::Cage;
+use second::check::{check, CageCounts};
+use second::corners::corner_question;
+use second::counts::{count_question, LevelCounts};
+use second::file::{read_cage_file, write_cage_file};
+use second::refine::refine;
+use second::refusal::Refusal;
+use second::tables::LentTables;
+
+use super::{level_numbers, told, Operations};
+
+/// The second program.
+pub struct SecondProgram;
+
+impl Operations for SecondProgram {
+    fn check(&self, cage: &Cage) -> Vec<u64> {
+        let counts = |found: CageCounts| {
+            let (h, e, f) = (found.halfedges, found.edges, found.triangles);
+            [h, e, f, found.vertices, found.borders]
+        };
+        answer(check(cage).map(counts))
+    }
+
+    fn counts(&self, [h, e, v, depth]: [u64; 4]) -> Vec<u64> {
+        answer(count_question(h, e, v, depth).map(counts_numbers))
+    }
+
+    fn corners(&self, vert: &[u32], triangle: u64) -> Vec<u64> {
+        let corners = corner_question(vert, triangle);
+        answer(corners.map(|corners| corners.map(u64::from)))
+    }
+
+    fn refine(&self, cage: &Cage, depth: u64, tables: &mut Cage) -> Vec<u64> {
+        answer(refine(cage, depth, &mut lent(tables)).map(counts_numbers))
+    }
+
+    fn read(&self, file: &[u8], tables: &mut Cage) -> Vec<u64> {
+        let found = read_cage_file(file, &mut lent(tables));
+        answer(found.map(|found| [found.halfedges, found.vertices]))
+    }
+
+    fn write(&self, cage: &Cage, lent_file: &mut [u8]) -> Vec<u64> {
+        answer(write_cage_file(cage, lent_file).map(|length| [length]))
+    }
+}
+
+fn answer<const N: usize>(result: Result<[u64; N], Refusal>) -> Vec<u64> {
+    told(result.map_err(|refusal| [refusal.number.into(), refusal.place]))
+}
+
+fn counts_numbers(counts: LevelCounts) -> [u64; 23] {
+    let levels = [counts.halfedges, counts.edges, counts.vertices];
+    level_numbers(levels, [counts.halfedge_room, counts.vertex_room])
+}
+
+fn lent(tables: &mut Cage) -> LentTables<'_> {
+    LentTables {
+        twin: &mut tables.twin,
+        vert: &mut tables.vert,
+        edge: &mut tables.edge,
+        points: &mut tables.points,
+    }
+}

@@ -1,0 +1,31 @@
+//! Document 01, "The cage file": files to read, and where their fields stand.
+
+use second::cage::Cage;
+use second::file::write_cage_file;
+
+/// The second program's file of an accepted cage.
+pub fn file_of(cage: &Cage) -> Vec<u8> {
+    let mut file = vec![0; 65_536];
+    let length = write_cage_file(cage, &mut file).expect("accepted");
+    file.truncate(length as usize);
+    file
+}
+
+/// The lengths of the tables of a cage.
+pub fn lengths_of(cage: &Cage) -> [usize; 4] {
+    let points = cage.points.len();
+    [cage.twin.len(), cage.vert.len(), cage.edge.len(), points]
+}
+
+/// The offsets of the six heads in the file of a cage, and the file's end.
+pub fn heads(cage: &Cage) -> [usize; 7] {
+    let (h, v) = (cage.halfedge_count(), cage.vertex_count());
+    let mut offset = 0;
+    let payloads = [6, 2 * h, 2 * h, 2 * h, 12 * v, 0];
+    let after = payloads.map(|length| {
+        offset += 3 + length;
+        offset
+    });
+    let [first, twin, vert, edge, points, end] = after;
+    [0, first, twin, vert, edge, points, end]
+}

@@ -1,0 +1,32 @@
+//! The comparison of the host library with the second program, an independent
+//! judge written from document 01 alone.
+//!
+//! A [`Question`] is put to three: the proved archive through its raw
+//! functions, the safe crate in front of it, and the second program. Each is
+//! lent tables and buffers that were marked beforehand. What each leaves
+//! behind, an [`Outcome`], has every number of the answer and every lent cell,
+//! and all of it is compared.
+
+mod asked;
+mod files;
+mod outcome;
+mod question;
+mod suite;
+
+pub use asked::{handed, Archive, Operations, SafeCrate, SecondProgram};
+pub use files::{file_of, heads, lengths_of};
+pub use outcome::{first_difference, Difference, Outcome};
+pub use question::Question;
+pub use suite::{accepted, named, refused, room_at};
+
+/// Puts the question to all three, which have to leave the same behind.
+pub fn assert_alike(name: &str, question: &Question) -> Outcome {
+    let judged = question.put_to(&SecondProgram);
+    let hosts: [&dyn Operations; 2] = [&Archive, &SafeCrate];
+    for host in hosts {
+        if let Some(difference) = first_difference(&question.put_to(host), &judged) {
+            panic!("{name}: {difference}; asked: {}", question.brief());
+        }
+    }
+    judged
+}

@@ -1,0 +1,75 @@
+//! What an operation leaves behind, and where two such outcomes differ.
+
+use std::fmt;
+
+use second::cage::Cage;
+
+/// Every number of the answer and every lent cell.
+#[derive(Clone, Debug, Default, PartialEq, Eq)]
+pub struct Outcome {
+    /// Number, place and values.
+    pub answer: Vec<u64>,
+    /// The lent tables.
+    pub tables: Cage,
+    /// The lent file buffer.
+    pub file: Vec<u8>,
+}
+
+impl Outcome {
+    /// Number and place: both 0 when done.
+    pub fn verdict(&self) -> (u64, u64) {
+        (self.answer[0], self.answer[1])
+    }
+}
+
+/// The first cell at which two outcomes differ, and what stands there. A cell
+/// that is missing is nothing.
+#[derive(Clone, Debug, PartialEq, Eq)]
+pub struct Difference {
+    pub part: &'static str,
+    pub cell: usize,
+    pub host: Option<i64>,
+    pub second: Option<i64>,
+}
+
+impl fmt::Display for Difference {
+    fn fmt(&self, out: &mut fmt::Formatter<'_>) -> fmt::Result {
+        let shown = |cell: Option<i64>| cell.map_or("nothing".to_string(), |cell| cell.to_string());
+        let (host, second) = (shown(self.host), shown(self.second));
+        let (part, cell) = (self.part, self.cell);
+        write!(
+            out,
+            "{part}[{cell}] is {host}, and {second} in the second program"
+        )
+    }
+}
+
+/// Where the outcomes of the host and of the second program differ, if they do.
+pub fn first_difference(host: &Outcome, second: &Outcome) -> Option<Difference> {
+    let (ours, theirs) = (&host.tables, &second.tables);
+    difference_in("answer", &host.answer, &second.answer, |&cell| cell as i64)
+        .or_else(|| difference_in("twin", &ours.twin, &theirs.twin, |&cell| cell.into()))
+        .or_else(|| difference_in("vert", &ours.vert, &theirs.vert, |&cell| cell.into()))
+        .or_else(|| difference_in("edge", &ours.edge, &theirs.edge, |&cell| cell.into()))
+        .or_else(|| difference_in("points", &ours.points, &theirs.points, |&cell| cell.into()))
+        .or_else(|| difference_in("file", &host.file, &second.file, |&cell| cell.into()))
+}
+
+fn difference_in<T: PartialEq>(
+    part: &'static str,
+    host: &[T],
+    second: &[T],
+    shown: fn(&T) -> i64,
+) -> Option<Difference> {
+    if host == second {
+        return None;
+    }
+    let differs = |&cell: &usize| host.get(cell) != second.get(cell);
+    let cell = (0..host.len().max(second.len())).find(differs)?;
+    Some(Difference {
+        part,
+        cell,
+        host: host.get(cell).map(shown),
+        second: second.get(cell).map(shown),
+    })
+}

@@ -1,0 +1,82 @@
+//! What can be asked, and the tables and buffers that are lent for it.
+
+use second::cage::Cage;
+
+use crate::{Operations, Outcome};
+
+/// One call of a public operation, with the lengths of what is lent.
+#[derive(Clone, Copy, Debug)]
+pub enum Question<'a> {
+    /// The cage check.
+    Check(&'a Cage),
+    /// The count question: H, E, V and a depth.
+    Counts([u64; 4]),
+    /// The corner question: a VERT table and a triangle.
+    Corners(&'a [u32], u64),
+    /// Refining to a depth, into tables of these lengths.
+    Refine(&'a Cage, u64, [usize; 4]),
+    /// Reading a file into tables of these lengths.
+    Read(&'a [u8], [usize; 4]),
+    /// Writing into a buffer of this length.
+    Write(&'a Cage, usize),
+}
+
+impl Question<'_> {
+    /// Lends marked tables or a marked buffer, and asks.
+    pub fn put_to(&self, asked: &dyn Operations) -> Outcome {
+        let mut left = Outcome::default();
+        left.answer = match *self {
+            Question::Check(cage) => asked.check(cage),
+            Question::Counts(numbers) => asked.counts(numbers),
+            Question::Corners(vert, triangle) => asked.corners(vert, triangle),
+            Question::Refine(cage, depth, lengths) => {
+                left.tables = marked_tables(lengths);
+                asked.refine(cage, depth, &mut left.tables)
+            }
+            Question::Read(file, lengths) => {
+                left.tables = marked_tables(lengths);
+                asked.read(file, &mut left.tables)
+            }
+            Question::Write(cage, length) => {
+                left.file = marked_file(length);
+                asked.write(cage, &mut left.file)
+            }
+        };
+        left
+    }
+
+    /// The question in a few words, its tables by their lengths.
+    pub fn brief(&self) -> String {
+        let lengths = |cage: &Cage| {
+            let numbers = [cage.twin.len(), cage.vert.len(), cage.edge.len()];
+            format!("{numbers:?} and {} coordinates", cage.points.len())
+        };
+        match self {
+            Question::Check(cage) => format!("check of {}", lengths(cage)),
+            Question::Counts(numbers) => format!("counts of {numbers:?}"),
+            Question::Corners(vert, triangle) => format!("corners of {triangle} in {vert:?}"),
+            Question::Refine(cage, depth, lent) => {
+                format!("refining of {} to {depth} into {lent:?}", lengths(cage))
+            }
+            Question::Read(file, lent) => format!("reading of {} bytes into {lent:?}", file.len()),
+            Question::Write(cage, lent) => format!("writing of {} into {lent}", lengths(cage)),
+        }
+    }
+}
+
+/// Tables of these lengths to lend. A cell can be told from its neighbours and
+/// from the same cell of another table, so that any change of it shows.
+fn marked_tables(lengths: [usize; 4]) -> Cage {
+    let cells = |salt: u32, length: usize| (0..length as u32).map(move |at| at ^ salt).collect();
+    Cage {
+        twin: cells(0xAAAA_0000, lengths[0]),
+        vert: cells(0xBBBB_0000, lengths[1]),
+        edge: cells(0xCCCC_0000, lengths[2]),
+        points: (0..lengths[3] as i32).map(|at| -2_000_000 - at).collect(),
+    }
+}
+
+/// A file buffer of this length to lend.
+fn marked_file(length: usize) -> Vec<u8> {
+    (0..length).map(|at| (at % 251) as u8 ^ 0xA5).collect()
+}

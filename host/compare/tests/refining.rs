@@ -1,0 +1,182 @@
+//! Refining: the answer and every cell of the four lent tables.
+
+use compare::{accepted, assert_alike, named, refused, room_at, Outcome, Question};
+use second::cage::{Cage, MARKER};
+use second::suite::SuiteCage;
+
+/// Every accepted cage at every depth, into tables of which one is as long as
+/// needed and the others are longer.
+fn at_every_depth(entries: &[SuiteCage]) {
+    for entry in entries {
+        for depth in 0..=6 {
+            let mut longer = [0, 1, 2, 7];
+            longer.rotate_left(depth as usize % 4);
+            let room = room_at(&entry.cage, depth);
+            let lengths = std::array::from_fn(|table| room[table] + longer[table]);
+            let question = Question::Refine(&entry.cage, depth, lengths);
+            let outcome = assert_alike(&entry.name, &question);
+            assert_eq!(outcome.verdict(), (0, 0), "{}", entry.name);
+        }
+    }
+}
+
+#[test]
+fn every_small_accepted_cage_at_every_depth() {
+    let mut entries = accepted();
+    entries.retain(|entry| !entry.is_large());
+    assert!(entries.len() > 150);
+    at_every_depth(&entries);
+}
+
+#[test]
+fn every_large_accepted_cage_at_every_depth() {
+    let mut entries = accepted();
+    entries.retain(SuiteCage::is_large);
+    let of_most_halfedges = |entry: &&SuiteCage| entry.cage.halfedge_count() == 3_072;
+    assert!(entries.iter().filter(of_most_halfedges).count() > 3);
+    let (first, second) = entries.split_at(entries.len() / 2);
+    std::thread::scope(|scope| {
+        scope.spawn(|| at_every_depth(first));
+        scope.spawn(|| at_every_depth(second));
+    });
+}
+
+#[test]
+fn every_refused_cage_at_three_depths_and_past_the_limit() {
+    let entries = refused();
+    assert!(entries.len() > 150);
+    for entry in &entries {
+        for depth in [0, 1, 6, 7, u64::MAX] {
+            for lengths in [[40, 41, 42, 43], [0; 4]] {
+                let question = Question::Refine(&entry.cage, depth, lengths);
+                let outcome = assert_alike(&entry.name, &question);
+                assert_ne!(outcome.verdict().0, 0, "{}", entry.name);
+            }
+        }
+    }
+}
+
+#[test]
+fn accepted_cages_past_the_limit_of_the_depth() {
+    for name in ["triangle", "pillow", "cushion", "torus-32x16"] {
+        let cage = named(name);
+        for depth in [7, 8, 1 << 32, (1 << 32) + 1, 1 << 63, u64::MAX] {
+            let question = Question::Refine(&cage, depth, room_at(&cage, 1));
+            assert_eq!(assert_alike(name, &question).verdict(), (2, 0), "{name}");
+        }
+    }
+}
+
+const ROOM_TRIED: [&str; 5] = ["triangle", "pillow", "strip-2", "disc-33", "torus-3x3"];
+
+#[test]
+fn room_exact_and_one_short_table_by_table() {
+    for name in ROOM_TRIED {
+        let cage = named(name);
+        for depth in 0..=6 {
+            let exact = room_at(&cage, depth);
+            let refined = |lengths| assert_alike(name, &Question::Refine(&cage, depth, lengths));
+            assert_eq!(refined(exact).verdict(), (0, 0), "{name}");
+            for table in 0..4 {
+                let mut short = exact;
+                short[table] -= 1;
+                let place = table as u64 + 1;
+                assert_eq!(refined(short).verdict(), (9, place), "{name}");
+            }
+        }
+    }
+}
+
+#[test]
+fn several_tables_short_at_once() {
+    for name in ROOM_TRIED {
+        let cage = named(name);
+        for depth in [0, 1, 3] {
+            let exact = room_at(&cage, depth);
+            // Each of the four tables is enough, one short or empty.
+            for choice in 0..81_usize {
+                let choices = [choice / 27, choice / 9 % 3, choice / 3 % 3, choice % 3];
+                let lengths = std::array::from_fn(|table| match choices[table] {
+                    0 => exact[table],
+                    1 => exact[table] - 1,
+                    _ => 0,
+                });
+                let place = choices.iter().position(|&choice| choice != 0);
+                let expected = place.map_or((0, 0), |table| (9, table as u64 + 1));
+                let question = Question::Refine(&cage, depth, lengths);
+                assert_eq!(assert_alike(name, &question).verdict(), expected);
+            }
+        }
+    }
+}
+
+/// How many corners each vertex has, and the far ends of its border edges.
+fn corners_and_border_ends(cage: &Cage) -> Vec<(usize, Vec<u32>)> {
+    let mut found = vec![(0, Vec::new()); cage.vertex_count()];
+    for h in 0..cage.halfedge_count() {
+        let next = if h % 3 == 2 { h - 2 } else { h + 1 };
+        let (from, to) = (cage.vert[h], cage.vert[next]);
+        found[from as usize].0 += 1;
+        if cage.twin[h] == MARKER {
+            found[from as usize].1.push(to);
+            found[to as usize].1.push(from);
+        }
+    }
+    found
+}
+
+/// What the comparison above is about is really in the suite.
+#[test]
+fn the_suite_has_each_kind_of_cage() {
+    let kinds = |name: &str| corners_and_border_ends(&named(name));
+    for (name, valence) in [
+        ("disc-3", 3),
+        ("tetrahedron", 3),
+        ("disc-4", 4),
+        ("octahedron", 4),
+        ("disc-33", 33),
+        ("double-pyramid-33", 33),
+        ("disc-1024", 1_024),
+    ] {
+        let is_such = |(corners, ends): &(usize, Vec<u32>)| *corners == valence && ends.is_empty();
+        assert!(kinds(name).iter().any(is_such), "{name}");
+    }
+    assert_eq!(named("strip-2").triangle_count(), 2);
+    assert_eq!(named("pillow").triangle_count(), 2);
+    for closed in [
+        "pillow",
+        "torus-2x2",
+        "torus-3x3",
+        "torus-4x6",
+        "torus-32x16",
+    ] {
+        assert_eq!(named(closed).border_count(), 0, "{closed}");
+    }
+    // Triangles that share nothing, and pieces of several kinds.
+    assert_eq!(named("triangles-8").border_count(), 24);
+    assert!(named("pieces").triangle_count() > 10);
+    let same_ends = |(_, ends): &(usize, Vec<u32>)| ends.len() == 2 && ends[0] == ends[1];
+    assert!(kinds("pillow-slit").iter().any(same_ends));
+    let points = |name: &str| named(name).points;
+    assert!(points("octahedron-negative").iter().all(|&c| c < 0));
+    assert!(points("triangle-lowest").iter().all(|&c| c == -1_048_576));
+    assert!(points("triangle-highest").iter().all(|&c| c == 1_048_576));
+    for name in ["octahedron-at-both-ends", "grid-at-both-ends"] {
+        assert!(points(name).iter().all(|c| c.abs() == 1_048_576), "{name}");
+    }
+}
+
+/// Cages that are accepted with every coordinate turned negative.
+#[test]
+fn negative_coordinates_everywhere() {
+    for entry in accepted().iter().filter(|entry| !entry.is_large()) {
+        let mut cage = entry.cage.clone();
+        for coordinate in &mut cage.points {
+            *coordinate = -1 - coordinate.abs() / 2;
+        }
+        let question = Question::Refine(&cage, 3, room_at(&cage, 3));
+        let Outcome { answer, tables, .. } = assert_alike(&entry.name, &question);
+        assert_eq!(answer[0], 0);
+        assert!(tables.points.iter().all(|&coordinate| coordinate < 0));
+    }
+}

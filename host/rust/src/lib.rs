@@ -1,0 +1,46 @@
+//! Ryebadger for Rust: check, quote, refine, read and write a triangle cage.
+//!
+//! The operations are proved, and linked as an archive; this crate hands them
+//! slices and names their answers. The words and numbers are those of document
+//! 01, the scope of the build.
+//!
+//! | To | Call |
+//! |---|---|
+//! | check a cage | [`check`] |
+//! | quote the counts of all levels, and the room | [`counts`] |
+//! | refine a cage | [`Refined::new`], or [`refine`] into lent tables |
+//! | get a triangle's corners | [`corners`] |
+//! | read a cage file | [`OwnedCage::read`], or [`read`] into lent tables |
+//! | write a cage file | [`Cage::to_file`], or [`write`] into a lent buffer |
+//!
+//! Nothing here panics on any input. `check`, `counts`, `refine`, `corners`,
+//! `read` and `write` allocate nothing.
+//!
+//! ```
+//! use ryebadger::{OwnedCage, Refined};
+//!
+//! fn finest(file: &[u8]) -> Result<Vec<i32>, ryebadger::Refusal> {
+//!     let cage = OwnedCage::read(file)?;
+//!     let refined = Refined::new(cage.as_cage(), 6)?;
+//!     Ok(refined.level(6).unwrap_or_default().points.to_vec())
+//! }
+//!
+//! let refusal = finest(b"").unwrap_err();
+//! assert_eq!(refusal.to_string(), "refusal 10, SHORT, at place 0");
+//! ```
+
+mod cage;
+mod operations;
+mod owned;
+mod refusal;
+pub mod sys;
+
+pub use cage::{
+    Cage, LentTables, OwnedCage, COORDINATE_LIMIT, DEPTH_LIMIT, HALFEDGE_LIMIT, MARKER,
+    VERTEX_LIMIT,
+};
+pub use operations::{
+    check, corners, counts, read, refine, write, CageCounts, FileCounts, LevelCounts, LEVELS,
+};
+pub use owned::{Refined, LONGEST_FILE};
+pub use refusal::{Refusal, Table};

@@ -1,0 +1,175 @@
+//! The six operations of document 01, each with a `Result`.
+//!
+//! Every operation answers for any input; its refusals are those listed with
+//! it. A refusal leaves every lent cell as it was.
+
+use crate::cage::DEPTH_LIMIT;
+use crate::{sys, Cage, LentTables, Refusal};
+
+/// How many levels the deepest refinement has, level 0 among them.
+pub const LEVELS: usize = DEPTH_LIMIT + 1;
+
+/// H, E, F, V and B of a cage that was accepted.
+#[derive(Clone, Copy, Debug, PartialEq, Eq)]
+pub struct CageCounts {
+    /// H.
+    pub halfedges: u32,
+    /// E.
+    pub edges: u32,
+    /// F.
+    pub triangles: u32,
+    /// V.
+    pub vertices: u32,
+    /// B, the border edges.
+    pub borders: u32,
+}
+
+/// The counts of all seven levels, zero past the depth asked, and the room.
+#[derive(Clone, Copy, Debug, PartialEq, Eq)]
+pub struct LevelCounts {
+    /// H of each level.
+    pub halfedges: [u32; LEVELS],
+    /// E of each level.
+    pub edges: [u32; LEVELS],
+    /// V of each level.
+    pub vertices: [u32; LEVELS],
+    /// The sum of H over levels 0 to the depth: cells needed in each of the
+    /// lent TWIN, VERT and EDGE.
+    pub halfedge_room: u32,
+    /// The sum of V over levels 0 to the depth: a third of the cells needed in
+    /// the lent points.
+    pub vertex_room: u32,
+}
+
+/// H and V of a file that was read.
+#[derive(Clone, Copy, Debug, PartialEq, Eq)]
+pub struct FileCounts {
+    /// H.
+    pub halfedges: u32,
+    /// V.
+    pub vertices: u32,
+}
+
+/// The cage check. Gives refusals 1 to 8.
+///
+/// ```
+/// use ryebadger::{check, Cage, MARKER};
+///
+/// let triangle = Cage {
+///     twin: &[MARKER; 3],
+///     vert: &[0, 1, 2],
+///     edge: &[0, 1, 2],
+///     points: &[0, 0, 0, 800, 0, 0, 0, 800, 0],
+/// };
+/// assert_eq!(check(triangle)?.borders, 3);
+///
+/// let stray = Cage { vert: &[0, 1, 3], ..triangle };
+/// let refusal = check(stray).unwrap_err();
+/// assert_eq!(refusal.to_string(), "refusal 4, VERTEX, at place 2");
+/// # Ok::<(), ryebadger::Refusal>(())
+/// ```
+pub fn check(cage: Cage<'_>) -> Result<CageCounts, Refusal> {
+    let mut answer = [0; sys::CHECK_ANSWER];
+    sys::check(cage, &mut answer);
+    let [number, place, halfedges, edges, triangles, vertices, borders] = answer;
+    refuse(number, place)?;
+    Ok(CageCounts {
+        halfedges,
+        edges,
+        triangles,
+        vertices,
+        borders,
+    })
+}
+
+/// The count question: H, E, V and a depth. Gives refusals 1 and 2.
+///
+/// ```
+/// // Document 01's P8.
+/// let counts = ryebadger::counts(12, 6, 4, 2)?;
+/// assert_eq!((counts.halfedge_room, counts.vertex_room), (252, 48));
+/// # Ok::<(), ryebadger::Refusal>(())
+/// ```
+pub fn counts(
+    halfedges: u64,
+    edges: u64,
+    vertices: u64,
+    depth: u64,
+) -> Result<LevelCounts, Refusal> {
+    let mut answer = [0; sys::COUNTS_ANSWER];
+    sys::counts(halfedges, edges, vertices, depth, &mut answer);
+    counted(&answer)
+}
+
+/// Refining: levels 0 to the depth end to end at the front of the lent tables,
+/// level 0 being the cage. Cells past the room are untouched. Gives refusals 1
+/// to 9. [`Refined`](crate::Refined) has the room found and allocated.
+pub fn refine(
+    cage: Cage<'_>,
+    depth: u64,
+    lent: &mut LentTables<'_>,
+) -> Result<LevelCounts, Refusal> {
+    let mut answer = [0; sys::COUNTS_ANSWER];
+    sys::refine(cage, depth, lent, &mut answer);
+    counted(&answer)
+}
+
+/// The corner question: a triangle's three corner numbers, as stored in a VERT
+/// table. Gives refusal 1.
+///
+/// ```
+/// assert_eq!(ryebadger::corners(&[0, 1, 2, 0, 2, 1], 1)?, [0, 2, 1]);
+/// # Ok::<(), ryebadger::Refusal>(())
+/// ```
+pub fn corners(vert: &[u32], triangle: u64) -> Result<[u32; 3], Refusal> {
+    let mut answer = [0; sys::CORNERS_ANSWER];
+    sys::corners(vert, triangle, &mut answer);
+    let [number, place, corners @ ..] = answer;
+    refuse(number, place)?;
+    Ok(corners)
+}
+
+/// Reading a cage file to the front of the lent tables, without checks 3 to 8.
+/// Cells past H, or past 3V in the points, are untouched. Gives refusals 1, 2
+/// and 9 to 12. [`OwnedCage::read`](crate::OwnedCage::read) allocates.
+pub fn read(file: &[u8], lent: &mut LentTables<'_>) -> Result<FileCounts, Refusal> {
+    let mut answer = [0; sys::READ_ANSWER];
+    sys::read(file, lent, &mut answer);
+    let [number, place, halfedges, vertices] = answer;
+    refuse(number, place)?;
+    Ok(FileCounts {
+        halfedges,
+        vertices,
+    })
+}
+
+/// Writing a cage file to the front of the lent buffer; its length is returned.
+/// Bytes past it are untouched. Gives refusals 1 to 9.
+/// [`Cage::to_file`] allocates.
+pub fn write(cage: Cage<'_>, lent_file: &mut [u8]) -> Result<usize, Refusal> {
+    let mut answer = [0; sys::WRITE_ANSWER];
+    sys::write(cage, lent_file, &mut answer);
+    let [number, place, length] = answer;
+    refuse(number, place)?;
+    Ok(length as usize)
+}
+
+/// The refusal of a number that is not 0.
+fn refuse(number: u32, place: u32) -> Result<(), Refusal> {
+    match number {
+        0 => Ok(()),
+        _ => Err(Refusal::told(number, place)),
+    }
+}
+
+fn counted(answer: &[u32; sys::COUNTS_ANSWER]) -> Result<LevelCounts, Refusal> {
+    refuse(answer[0], answer[1])?;
+    let of_levels = |first: usize| std::array::from_fn(|level| answer[first + level]);
+    Ok(LevelCounts {
+        halfedges: of_levels(2),
+        edges: of_levels(2 + LEVELS),
+        vertices: of_levels(2 + 2 * LEVELS),
+        halfedge_room: answer[2 + 3 * LEVELS],
+        vertex_room: answer[3 + 3 * LEVELS],
+    })
+}

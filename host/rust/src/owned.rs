@@ -1,0 +1,121 @@
+//! The operations with their tables allocated: reading into an owned cage, a
+//! whole file, and all levels of a cage.
+
+use std::ops::Range;
+
+use crate::cage::{HALFEDGE_LIMIT, VERTEX_LIMIT};
+use crate::operations::{check, counts, read, refine, write, LevelCounts, LEVELS};
+use crate::{Cage, OwnedCage, Refusal};
+
+/// The bytes of the longest cage file.
+pub const LONGEST_FILE: usize = 24 + 6 * HALFEDGE_LIMIT + 12 * VERTEX_LIMIT;
+
+impl OwnedCage {
+    /// Reads a cage file, without checks 3 to 8. Gives refusals 1, 2 and 10 to
+    /// 12.
+    pub fn read(file: &[u8]) -> Result<OwnedCage, Refusal> {
+        let mut cage = OwnedCage::with_room(HALFEDGE_LIMIT, VERTEX_LIMIT);
+        let found = read(file, &mut cage.lend())?;
+        let (halfedges, vertices) = (found.halfedges as usize, found.vertices as usize);
+        cage.twin.truncate(halfedges);
+        cage.vert.truncate(halfedges);
+        cage.edge.truncate(halfedges);
+        cage.points.truncate(3 * vertices);
+        Ok(cage)
+    }
+}
+
+impl Cage<'_> {
+    /// The cage file of this cage. Gives refusals 1 to 8.
+    pub fn to_file(self) -> Result<Vec<u8>, Refusal> {
+        let mut file = vec![0; LONGEST_FILE];
+        let length = write(self, &mut file)?;
+        file.truncate(length);
+        Ok(file)
+    }
+}
+
+/// All levels of a cage, from 0 to a depth.
+///
+/// ```
+/// use ryebadger::{Cage, Refined, MARKER};
+///
+/// // Document 01's triangle, P1 to P4.
+/// let triangle = Cage {
+///     twin: &[MARKER; 3],
+///     vert: &[0, 1, 2],
+///     edge: &[0, 1, 2],
+///     points: &[0, 0, 0, 800, 0, 0, 0, 800, 0],
+/// };
+/// let refined = Refined::new(triangle, 6)?;
+/// let level = refined.level(1).unwrap();
+/// assert_eq!(level.vert, [0, 3, 5, 1, 4, 3, 2, 5, 4, 5, 3, 4]);
+/// assert_eq!(level.points[..3], [100, 100, 0]);
+/// assert_eq!(refined.levels().count(), 7);
+/// # Ok::<(), ryebadger::Refusal>(())
+/// ```
+#[derive(Clone, Debug, PartialEq, Eq)]
+pub struct Refined {
+    tables: OwnedCage,
+    counts: LevelCounts,
+    depth: usize,
+}
+
+impl Refined {
+    /// Quotes the room, allocates it, and refines. Gives refusals 1 to 8.
+    pub fn new(cage: Cage<'_>, depth: u64) -> Result<Refined, Refusal> {
+        let found = check(cage)?;
+        let quoted = counts(
+            found.halfedges.into(),
+            found.edges.into(),
+            found.vertices.into(),
+            depth,
+        )?;
+        let (halfedges, vertices) = (quoted.halfedge_room, quoted.vertex_room);
+        let mut tables = OwnedCage::with_room(halfedges as usize, vertices as usize);
+        let counts = refine(cage, depth, &mut tables.lend())?;
+        Ok(Refined {
+            tables,
+            counts,
+            depth: depth as usize,
+        })
+    }
+
+    /// The depth that was asked for.
+    pub fn depth(&self) -> usize {
+        self.depth
+    }
+
+    /// The counts of all levels, and the room.
+    pub fn counts(&self) -> &LevelCounts {
+        &self.counts
+    }
+
+    /// The four tables of a level, or nothing past the depth.
+    pub fn level(&self, level: usize) -> Option<Cage<'_>> {
+        (level <= self.depth).then_some(())?;
+        let halfedges = cells_of(&self.counts.halfedges, level)?;
+        let vertices = cells_of(&self.counts.vertices, level)?;
+        Some(Cage {
+            twin: self.tables.twin.get(halfedges.clone())?,
+            vert: self.tables.vert.get(halfedges.clone())?,
+            edge: self.tables.edge.get(halfedges)?,
+            points: self
+                .tables
+                .points
+                .get(3 * vertices.start..3 * vertices.end)?,
+        })
+    }
+
+    /// Level 0, level 1 and so on to the depth.
+    pub fn levels(&self) -> impl Iterator<Item = Cage<'_>> {
+        (0..=self.depth).filter_map(|level| self.level(level))
+    }
+}
+
+/// Where a level stands in levels that lie end to end.
+fn cells_of(counts: &[u32; LEVELS], level: usize) -> Option<Range<usize>> {
+    let before = counts.get(..level)?.iter();
+    let start = before.map(|&count| count as usize).sum();
+    Some(start..start + *counts.get(level)? as usize)
+}

@@ -1,0 +1,138 @@
+//! The exported functions of the proved archive, each behind a safe one that
+//! takes slices and fills a raw answer. All unsafe code of this crate is here.
+//!
+//! An answer starts with the number and the place; the values that follow are
+//! those of `host/ryebadger.h`. All of it is written, whatever it held.
+
+#![allow(unsafe_code)]
+
+use crate::{Cage, LentTables};
+
+#[cfg(not(target_pointer_width = "64"))]
+compile_error!("the archive takes lengths of 64 bits");
+
+/// The length of the cage check's answer: number, place, H, E, F, V and B.
+pub const CHECK_ANSWER: usize = 7;
+
+/// The length of the count question's answer, which refining gives too: number,
+/// place, seven H, seven E, seven V, and the room in halfedges and in vertices.
+pub const COUNTS_ANSWER: usize = 25;
+
+/// The length of the corner question's answer: number, place, three corners.
+pub const CORNERS_ANSWER: usize = 5;
+
+/// The length of reading's answer: number, place, H and V.
+pub const READ_ANSWER: usize = 4;
+
+/// The length of writing's answer: number, place and the file's length.
+pub const WRITE_ANSWER: usize = 3;
+
+#[rustfmt::skip] // a table's pointer and length stand side by side
+extern "C" {
+    fn ryebadger_check(
+        twin: *const u32, twin_length: usize, vert: *const u32, vert_length: usize,
+        edge: *const u32, edge_length: usize, points: *const i32, points_length: usize,
+        answer: *mut u32,
+    );
+    fn ryebadger_counts(halfedges: u64, edges: u64, vertices: u64, depth: u64, answer: *mut u32);
+    fn ryebadger_refine(
+        twin: *const u32, twin_length: usize, vert: *const u32, vert_length: usize,
+        edge: *const u32, edge_length: usize, points: *const i32, points_length: usize,
+        depth: u64,
+        lent_twin: *mut u32, lent_twin_length: usize, lent_vert: *mut u32, lent_vert_length: usize,
+        lent_edge: *mut u32, lent_edge_length: usize, lent_points: *mut i32, lent_points_length: usize,
+        answer: *mut u32,
+    );
+    fn ryebadger_corners(vert: *const u32, vert_length: usize, triangle: u64, answer: *mut u32);
+    fn ryebadger_read(
+        file: *const u8, file_length: usize,
+        lent_twin: *mut u32, lent_twin_length: usize, lent_vert: *mut u32, lent_vert_length: usize,
+        lent_edge: *mut u32, lent_edge_length: usize, lent_points: *mut i32, lent_points_length: usize,
+        answer: *mut u32,
+    );
+    fn ryebadger_write(
+        twin: *const u32, twin_length: usize, vert: *const u32, vert_length: usize,
+        edge: *const u32, edge_length: usize, points: *const i32, points_length: usize,
+        lent_file: *mut u8, lent_file_length: usize,
+        answer: *mut u32,
+    );
+}
+
+// Why every call below is safe: a pointer and its length come from one slice
+// or array, so the pointer is aligned, not null, and has that many cells; what
+// is lent and the answer are borrowed mutably, so they overlap nothing else;
+// and the operations are proved to keep to what they are handed.
+
+/// The cage check.
+#[rustfmt::skip]
+pub fn check(cage: Cage<'_>, answer: &mut [u32; CHECK_ANSWER]) {
+    unsafe {
+        ryebadger_check(
+            cage.twin.as_ptr(), cage.twin.len(), cage.vert.as_ptr(), cage.vert.len(),
+            cage.edge.as_ptr(), cage.edge.len(), cage.points.as_ptr(), cage.points.len(),
+            answer.as_mut_ptr(),
+        );
+    }
+}
+
+/// The count question.
+pub fn counts(
+    halfedges: u64,
+    edges: u64,
+    vertices: u64,
+    depth: u64,
+    answer: &mut [u32; COUNTS_ANSWER],
+) {
+    unsafe { ryebadger_counts(halfedges, edges, vertices, depth, answer.as_mut_ptr()) }
+}
+
+/// Refining.
+#[rustfmt::skip]
+pub fn refine(
+    cage: Cage<'_>,
+    depth: u64,
+    lent: &mut LentTables<'_>,
+    answer: &mut [u32; COUNTS_ANSWER],
+) {
+    unsafe {
+        ryebadger_refine(
+            cage.twin.as_ptr(), cage.twin.len(), cage.vert.as_ptr(), cage.vert.len(),
+            cage.edge.as_ptr(), cage.edge.len(), cage.points.as_ptr(), cage.points.len(),
+            depth,
+            lent.twin.as_mut_ptr(), lent.twin.len(), lent.vert.as_mut_ptr(), lent.vert.len(),
+            lent.edge.as_mut_ptr(), lent.edge.len(), lent.points.as_mut_ptr(), lent.points.len(),
+            answer.as_mut_ptr(),
+        );
+    }
+}
+
+/// The corner question.
+pub fn corners(vert: &[u32], triangle: u64, answer: &mut [u32; CORNERS_ANSWER]) {
+    unsafe { ryebadger_corners(vert.as_ptr(), vert.len(), triangle, answer.as_mut_ptr()) }
+}
+
+/// Reading a cage file.
+#[rustfmt::skip]
+pub fn read(file: &[u8], lent: &mut LentTables<'_>, answer: &mut [u32; READ_ANSWER]) {
+    unsafe {
+        ryebadger_read(
+            file.as_ptr(), file.len(),
+            lent.twin.as_mut_ptr(), lent.twin.len(), lent.vert.as_mut_ptr(), lent.vert.len(),
+            lent.edge.as_mut_ptr(), lent.edge.len(), lent.points.as_mut_ptr(), lent.points.len(),
+            answer.as_mut_ptr(),
+        );
+    }
+}
+
+/// Writing a cage file.
+#[rustfmt::skip]
+pub fn write(cage: Cage<'_>, lent_file: &mut [u8], answer: &mut [u32; WRITE_ANSWER]) {
+    unsafe {
+        ryebadger_write(
+            cage.twin.as_ptr(), cage.twin.len(), cage.vert.as_ptr(), cage.vert.len(),
+            cage.edge.as_ptr(), cage.edge.len(), cage.points.as_ptr(), cage.points.len(),
+            lent_file.as_mut_ptr(), lent_file.len(),
+            answer.as_mut_ptr(),
+        );
+    }
+}
