@@ -98,7 +98,7 @@ fn suite_line(SuiteCage { name, cage, .. }: &SuiteCage) -> String {
 
 /// The cage file of a named cage.
 fn cage_file(name: &str) -> Result<Vec<u8>, Trouble> {
-    let unknown = || Trouble::Message(format!("the suite has no cage named {name}"));
+    let unknown = || Trouble::Message(format!("there is no cage named {name}"));
     let cage = cage_named(name).ok_or_else(unknown)?;
     let mut file = vec![0; LONGEST_FILE];
     let length = write_cage_file(&cage, &mut file)

@@ -46,7 +46,7 @@ fn unknown_usage_is_told() {
 
 #[test]
 fn a_named_cage_is_listed() {
-    for name in ["triangle", "pillow", "cushion"] {
+    for name in ["triangle", "pillow", "cushion", "coarse-cushion"] {
         let file = run(&["cage", name], &[]).stdout;
         let listed = printed(&["list"], &file);
         assert_eq!(listed.lines().count(), 8, "{name}");

@@ -24,9 +24,14 @@ pub fn assert_alike(name: &str, question: &Question) -> Outcome {
     let judged = question.put_to(&SecondProgram);
     let hosts: [&dyn Operations; 2] = [&Archive, &SafeCrate];
     for host in hosts {
-        if let Some(difference) = first_difference(&question.put_to(host), &judged) {
-            panic!("{name}: {difference}; asked: {}", question.brief());
-        }
+        assert_same(name, question, &question.put_to(host), &judged);
     }
     judged
+}
+
+/// Fails where the outcomes of a question differ, and says where.
+pub fn assert_same(name: &str, question: &Question, host: &Outcome, judged: &Outcome) {
+    if let Some(difference) = first_difference(host, judged) {
+        panic!("{name}: {difference}; asked: {}", question.brief());
+    }
 }

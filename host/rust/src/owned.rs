@@ -4,7 +4,7 @@
 use std::ops::Range;
 
 use crate::cage::{HALFEDGE_LIMIT, VERTEX_LIMIT};
-use crate::operations::{check, counts, read, refine, write, LevelCounts, LEVELS};
+use crate::operations::{check, counts, read, refine, write, CageCounts, LevelCounts, LEVELS};
 use crate::{Cage, OwnedCage, Refusal};
 
 /// The bytes of the longest cage file.
@@ -64,15 +64,10 @@ pub struct Refined {
 impl Refined {
     /// Quotes the room, allocates it, and refines. Gives refusals 1 to 8.
     pub fn new(cage: Cage<'_>, depth: u64) -> Result<Refined, Refusal> {
-        let found = check(cage)?;
-        let quoted = counts(
-            found.halfedges.into(),
-            found.edges.into(),
-            found.vertices.into(),
-            depth,
-        )?;
-        let (halfedges, vertices) = (quoted.halfedge_room, quoted.vertex_room);
-        let mut tables = OwnedCage::with_room(halfedges as usize, vertices as usize);
+        // Where the quote is refused so is refining, which has all checks in
+        // their order; it needs no room for that.
+        let (halfedges, vertices) = quoted_room(cage, depth).unwrap_or_default();
+        let mut tables = OwnedCage::with_room(halfedges, vertices);
         let counts = refine(cage, depth, &mut tables.lend())?;
         Ok(Refined {
             tables,
@@ -111,6 +106,18 @@ impl Refined {
     pub fn levels(&self) -> impl Iterator<Item = Cage<'_>> {
         (0..=self.depth).filter_map(|level| self.level(level))
     }
+}
+
+/// The sums of H and of V over levels 0 to the depth.
+fn quoted_room(cage: Cage<'_>, depth: u64) -> Result<(usize, usize), Refusal> {
+    let CageCounts {
+        halfedges,
+        edges,
+        vertices,
+        ..
+    } = check(cage)?;
+    let quoted = counts(halfedges.into(), edges.into(), vertices.into(), depth)?;
+    Ok((quoted.halfedge_room as usize, quoted.vertex_room as usize))
 }
 
 /// Where a level stands in levels that lie end to end.

@@ -106,7 +106,9 @@ impl Refusal {
             (9, 1) => Refusal::Room { table: Table::Twin },
             (9, 2) => Refusal::Room { table: Table::Vert },
             (9, 3) => Refusal::Room { table: Table::Edge },
-            (9, 4) => Refusal::Room { table: Table::Points },
+            (9, 4) => Refusal::Room {
+                table: Table::Points,
+            },
             (9, 5) => Refusal::Room { table: Table::File },
             (10, offset) => Refusal::Short { offset },
             (11, offset) => Refusal::Field { offset },

@@ -16,25 +16,32 @@ const CROWN: f64 = 45.0;
 const HOLLOW: f64 = 14.0;
 const FRONT_FALL: f64 = 12.0;
 
-/// Cells each way: 288 triangles.
-const CELLS: u32 = 12;
-
-/// A height-field over a rounded rectangle. Each cell is cut so that no
-/// triangle has two sides on the border.
+/// The cushion to mill: 12 cells each way, 288 triangles.
 pub(super) fn cushion() -> Cage {
-    let leans = |column, row| (2 * column < CELLS) != (2 * row < CELLS);
-    let vertices = cells(CELLS + 1, CELLS + 1);
+    cushion_of(12)
+}
+
+/// The same seat in so few triangles, 72, that each can be seen.
+pub(super) fn coarse_cushion() -> Cage {
+    cushion_of(6)
+}
+
+/// A height-field over a rounded rectangle, of so many cells each way. Each
+/// cell is cut so that no triangle has two sides on the border.
+fn cushion_of(side: u32) -> Cage {
+    let leans = |column, row| (2 * column < side) != (2 * row < side);
+    let from_middle = |place: u32| 2.0 * f64::from(place) / f64::from(side) - 1.0;
+    let vertices = cells(side + 1, side + 1);
     Cage {
         points: vertices
-            .flat_map(|(column, row)| point(column, row))
+            .flat_map(|(column, row)| point(from_middle(column), from_middle(row)))
             .collect(),
-        ..sew(open_sheet(CELLS, CELLS, leans))
+        ..sew(open_sheet(side, side, leans))
     }
 }
 
-fn point(column: u32, row: u32) -> [i32; 3] {
-    let from_middle = |place: u32| 2.0 * f64::from(place) / f64::from(CELLS) - 1.0;
-    let (u, v) = (from_middle(column), from_middle(row));
+/// The point at this part of the way from the middle to each side.
+fn point(u: f64, v: f64) -> [i32; 3] {
     let (u2, v2) = (u * u, v * v);
     let (u4, v4) = (u2 * u2, v2 * v2);
     let stretch = square_to_round(u.abs().max(v.abs()), (u4 + v4).sqrt().sqrt());

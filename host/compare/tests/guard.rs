@@ -1,0 +1,81 @@
+//! The comparison can fail: one wrong number or cell is found out, and where it
+//! is wrong is said.
+
+use compare::{
+    assert_same, file_of, first_difference, named, room_at, Archive, Outcome, Question,
+    SecondProgram,
+};
+
+/// The outcome with each of its cells changed in turn, and the part and cell
+/// that was.
+fn changed_everywhere(outcome: &Outcome) -> Vec<(&'static str, usize, Outcome)> {
+    let mut changed = Vec::new();
+    let mut change = |part, length, alter: &dyn Fn(&mut Outcome, usize)| {
+        for cell in 0..length {
+            let mut wrong = outcome.clone();
+            alter(&mut wrong, cell);
+            changed.push((part, cell, wrong));
+        }
+    };
+    let tables = &outcome.tables;
+    change("answer", outcome.answer.len(), &|o, at| o.answer[at] += 1);
+    change("twin", tables.twin.len(), &|o, at| o.tables.twin[at] ^= 1);
+    change("vert", tables.vert.len(), &|o, at| o.tables.vert[at] ^= 1);
+    change("edge", tables.edge.len(), &|o, at| o.tables.edge[at] ^= 1);
+    change("points", tables.points.len(), &|o, at| {
+        o.tables.points[at] -= 1
+    });
+    change("file", outcome.file.len(), &|o, at| o.file[at] ^= 128);
+    changed
+}
+
+#[test]
+fn one_wrong_cell_anywhere_is_reported_there() {
+    let cage = named("pillow");
+    let file = file_of(&cage);
+    let room = room_at(&cage, 1).map(|length| length + 3);
+    for question in [
+        Question::Check(&cage),
+        Question::Counts([12, 6, 4, 2]),
+        Question::Corners(&cage.vert, 1),
+        Question::Refine(&cage, 1, room),
+        Question::Refine(&cage, 7, room),
+        Question::Read(&file, room),
+        Question::Read(&file[1..], room),
+        Question::Write(&cage, file.len() + 3),
+        Question::Write(&cage, file.len() - 1),
+    ] {
+        let judged = question.put_to(&SecondProgram);
+        assert_eq!(first_difference(&question.put_to(&Archive), &judged), None);
+        let changed = changed_everywhere(&judged);
+        assert!(changed.len() >= judged.answer.len());
+        for (part, cell, wrong) in changed {
+            let found = first_difference(&wrong, &judged).expect("a difference");
+            assert_eq!((found.part, found.cell), (part, cell));
+        }
+    }
+}
+
+#[test]
+fn a_missing_or_further_cell_is_reported() {
+    let judged = Question::Counts([12, 6, 4, 2]).put_to(&SecondProgram);
+    let mut other = judged.clone();
+    other.answer.pop();
+    for (host, second) in [(&other, &judged), (&judged, &other)] {
+        let found = first_difference(host, second).expect("a difference");
+        assert_eq!((found.part, found.cell), ("answer", 24));
+    }
+}
+
+/// The assertion that every comparison goes through is one that fails.
+#[test]
+#[should_panic(expected = "pillow: points[18] is 5, and 6 in the second program")]
+fn a_wrong_cell_fails_the_assertion() {
+    let cage = named("pillow");
+    let question = Question::Refine(&cage, 1, room_at(&cage, 1));
+    let judged = question.put_to(&SecondProgram);
+    let mut wrong = question.put_to(&Archive);
+    // Edge 0's point of level 1, document 01's P6.
+    wrong.tables.points[9 + 9] -= 1;
+    assert_same("pillow", &question, &wrong, &judged);
+}

@@ -1,0 +1,72 @@
+//! What the safe crate allocates itself: a cage read, a file written, and all
+//! levels of a cage.
+
+use compare::{accepted, file_of, handed, named, refused, room_at, Question, SecondProgram};
+use ryebadger::{OwnedCage, Refined};
+use second::file::read_cage;
+
+#[test]
+fn an_owned_cage_is_what_the_second_program_reads() {
+    for entry in accepted() {
+        let file = file_of(&entry.cage);
+        let cage = OwnedCage::read(&file).expect(&entry.name);
+        assert_eq!(cage.as_cage(), handed(&entry.cage), "{}", entry.name);
+        assert_eq!(cage.as_cage().to_file(), Ok(file), "{}", entry.name);
+    }
+    for bytes in [&b""[..], &[0x10, 6, 0], &[0x11, 6, 0]] {
+        let refusal = OwnedCage::read(bytes).expect_err("no file");
+        let judged = read_cage(bytes).expect_err("no file");
+        let numbers = (refusal.number(), u64::from(refusal.place()));
+        assert_eq!(numbers, (judged.number, judged.place));
+    }
+}
+
+/// The levels one after the other are the second program's lent tables.
+#[test]
+fn refined_levels_end_to_end_are_the_second_programs_tables() {
+    for entry in accepted().iter().filter(|entry| !entry.is_large()) {
+        for depth in [0, 1, 4] {
+            let room = room_at(&entry.cage, depth);
+            let question = Question::Refine(&entry.cage, depth, room);
+            let judged = question.put_to(&SecondProgram).tables;
+            let refined = Refined::new(handed(&entry.cage), depth).expect(&entry.name);
+            let levels: Vec<_> = refined.levels().collect();
+            assert_eq!(levels.len() as u64, depth + 1);
+            let twin = levels.iter().map(|level| level.twin).collect::<Vec<_>>();
+            let vert = levels.iter().map(|level| level.vert).collect::<Vec<_>>();
+            let edge = levels.iter().map(|level| level.edge).collect::<Vec<_>>();
+            let points = levels.iter().map(|level| level.points).collect::<Vec<_>>();
+            assert_eq!(twin.concat(), judged.twin, "{}", entry.name);
+            assert_eq!(vert.concat(), judged.vert, "{}", entry.name);
+            assert_eq!(edge.concat(), judged.edge, "{}", entry.name);
+            assert_eq!(points.concat(), judged.points, "{}", entry.name);
+        }
+    }
+}
+
+#[test]
+fn there_is_no_level_past_the_depth() {
+    let cage = named("pillow");
+    let refined = Refined::new(handed(&cage), 2).expect("accepted");
+    assert_eq!(refined.depth(), 2);
+    assert!(refined.level(2).is_some());
+    for level in [3, 6, 7, usize::MAX] {
+        assert_eq!(refined.level(level), None);
+    }
+}
+
+/// Refusals 1 to 8 of the cage and the depth, in refining's order.
+#[test]
+fn refused_cages_and_depths_are_refused_by_number_and_place() {
+    let past_the_limit = |name: &str| (name.to_string(), named(name), vec![7, u64::MAX]);
+    let refused = refused().into_iter();
+    let refused = refused.map(|entry| (entry.name, entry.cage, vec![0, 6, 7, u64::MAX]));
+    for (name, cage, depths) in refused.chain(["pillow", "cushion"].map(past_the_limit)) {
+        for depth in depths {
+            let judged = Question::Refine(&cage, depth, [0; 4]).put_to(&SecondProgram);
+            let refusal = Refined::new(handed(&cage), depth).expect_err(&name);
+            let numbers = (refusal.number().into(), refusal.place().into());
+            assert_eq!(numbers, judged.verdict(), "{name}");
+        }
+    }
+}
