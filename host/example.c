@@ -1,5 +1,7 @@
 /* example FILE DEPTH: reads a cage file, quotes the room for the depth, refines, and prints H, E and V of each level.
- * Ends with status 1 where the cage or the depth is refused, and with 2 where anything else is wrong. */
+ * Ends with status 1 where the cage or the depth is refused, and with 2 where anything else is wrong.
+ *
+ *     host/build && cc -I host host/example.c target/host/libryebadger.a -o example && ./example cages/cushion.cage 6 */
 #include "ryebadger.h"
 
 #include <inttypes.h>

@@ -29,7 +29,7 @@ fn every_cage_of_the_suite_valid_and_damaged() {
 }
 
 #[test]
-fn coordinates_at_the_limits_and_one_more_at_every_third_index() {
+fn coordinates_at_the_limits_and_one_more_at_many_indexes() {
     for name in ["triangle", "pillow", "octahedron", "grid-6x5", "disc-1024"] {
         let cage = named(name);
         let last = cage.points.len() - 1;

@@ -32,8 +32,8 @@ fn every_level_is_accepted_and_keeps_its_counts() {
         ("pieces", 5),
         ("double-pyramid-33", 5),
         ("frame-4x5-disguised", 5),
-        ("cushion", 4),
-        ("disc-1024", 3),
+        ("cushion", 5),
+        ("disc-1024", 4),
     ] {
         let cage = named(name);
         let first = check_any_size(&cage).expect(name);

@@ -14,7 +14,8 @@
 //! | write a cage file | [`Cage::to_file`], or [`write`] into a lent buffer |
 //!
 //! Nothing here panics on any input. `check`, `counts`, `refine`, `corners`,
-//! `read` and `write` allocate nothing.
+//! `read` and `write` allocate nothing; the others end the program, as Rust
+//! does, where memory is short.
 //!
 //! ```
 //! use ryebadger::{OwnedCage, Refined};

@@ -88,17 +88,17 @@ impl Refined {
 
     /// The four tables of a level, or nothing past the depth.
     pub fn level(&self, level: usize) -> Option<Cage<'_>> {
-        (level <= self.depth).then_some(())?;
+        if level > self.depth {
+            return None;
+        }
         let halfedges = cells_of(&self.counts.halfedges, level)?;
         let vertices = cells_of(&self.counts.vertices, level)?;
+        let points = 3 * vertices.start..3 * vertices.end;
         Some(Cage {
             twin: self.tables.twin.get(halfedges.clone())?,
             vert: self.tables.vert.get(halfedges.clone())?,
             edge: self.tables.edge.get(halfedges)?,
-            points: self
-                .tables
-                .points
-                .get(3 * vertices.start..3 * vertices.end)?,
+            points: self.tables.points.get(points)?,
         })
     }
 

@@ -12,49 +12,38 @@ impl Operations for SafeCrate {
     fn check(&self, cage: &Cage) -> Vec<u64> {
         let counts = |found: CageCounts| {
             let (h, e, f) = (found.halfedges, found.edges, found.triangles);
-            [h, e, f, found.vertices, found.borders].map(u64::from)
+            [h, e, f, found.vertices, found.borders]
         };
-        let found = ryebadger::check(handed(cage));
-        told(found.map(counts).map_err(refusal_numbers))
+        answer(ryebadger::check(handed(cage)).map(counts))
     }
 
     fn counts(&self, [h, e, v, depth]: [u64; 4]) -> Vec<u64> {
-        let counts = ryebadger::counts(h, e, v, depth);
-        told(counts.map(counts_numbers).map_err(refusal_numbers))
+        answer(ryebadger::counts(h, e, v, depth).map(counts_numbers))
     }
 
     fn corners(&self, vert: &[u32], triangle: u64) -> Vec<u64> {
-        let corners = ryebadger::corners(vert, triangle);
-        told(
-            corners
-                .map(|corners| corners.map(u64::from))
-                .map_err(refusal_numbers),
-        )
+        answer(ryebadger::corners(vert, triangle))
     }
 
     fn refine(&self, cage: &Cage, depth: u64, tables: &mut Cage) -> Vec<u64> {
         let counts = ryebadger::refine(handed(cage), depth, &mut lent(tables));
-        told(counts.map(counts_numbers).map_err(refusal_numbers))
+        answer(counts.map(counts_numbers))
     }
 
     fn read(&self, file: &[u8], tables: &mut Cage) -> Vec<u64> {
         let found = ryebadger::read(file, &mut lent(tables));
-        let counts = found.map(|found| [found.halfedges, found.vertices].map(u64::from));
-        told(counts.map_err(refusal_numbers))
+        answer(found.map(|found| [found.halfedges, found.vertices]))
     }
 
     fn write(&self, cage: &Cage, lent_file: &mut [u8]) -> Vec<u64> {
         let length = ryebadger::write(handed(cage), lent_file);
-        told(
-            length
-                .map(|length| [length as u64])
-                .map_err(refusal_numbers),
-        )
+        answer(length.map(|length| [length as u64]))
     }
 }
 
-fn refusal_numbers(refusal: Refusal) -> [u64; 2] {
-    [refusal.number().into(), refusal.place().into()]
+fn answer<const N: usize>(result: Result<[impl Into<u64>; N], Refusal>) -> Vec<u64> {
+    let values = result.map(|values| values.map(Into::into));
+    told(values.map_err(|refusal| [refusal.number().into(), refusal.place().into()]))
 }
 
 fn counts_numbers(counts: LevelCounts) -> [u64; 23] {
