@@ -16,6 +16,9 @@ const PANEL: [f64; 2] = [4_800.0, 3_300.0];
 const FILLED: f64 = 0.88;
 const CAPTION: f64 = 420.0;
 
+/// The width of level 0's lines; finer levels have finer ones.
+const LINE: f64 = 7.0;
+
 /// The seat is turned by 24 degrees and seen from 48 degrees up: so high that
 /// no triangle of it hides another. Cosine and sine, sine and cosine.
 const TURN: [f64; 2] = [0.9135, 0.4067];
@@ -35,46 +38,56 @@ type Point = [f64; 3];
 pub fn svg(refined: &Refined) -> String {
     let rows = refined.levels().count().div_ceil(2) as f64;
     let (width, height) = (2.0 * PANEL[0], rows * (PANEL[1] + CAPTION));
+    let (pixels, lines) = (width / 10.0, height / 10.0);
     let mut text = format!(
-        "<svg xmlns=\"http://www.w3.org/2000/svg\" viewBox=\"0 0 {width} {height}\" \
-         width=\"{}\" height=\"{}\">\n\
-         <title>A cage and its first three levels</title>\n\
-         <rect width=\"100%\" height=\"100%\" fill=\"#fbfaf7\"/>\n",
-        width / 10.0,
-        height / 10.0
+        r##"<svg xmlns="http://www.w3.org/2000/svg" viewBox="0 0 {width} {height}" width="{pixels}" height="{lines}">
+<title>A cage and its first three levels</title>
+<rect width="100%" height="100%" fill="#fbfaf7"/>
+"##
     );
     let view = View::of(refined.level(0).unwrap_or_default());
     for (number, level) in refined.levels().enumerate() {
         let (column, row) = ((number % 2) as f64, (number / 2) as f64);
         let (x, y) = (column * PANEL[0], row * (PANEL[1] + CAPTION));
         text += &format!("<g transform=\"translate({x} {y})\">\n");
-        text += &panel(number, level, &view);
+        text += &triangles(level, &view, LINE / (number + 1) as f64);
+        text += &border(level, &view);
+        text += &caption(number, level);
         text += "</g>\n";
     }
     text + "</svg>\n"
 }
 
-fn panel(number: usize, level: Cage<'_>, view: &View) -> String {
-    let line = 7.0 / (1 + number) as f64;
-    let mut text = format!("<g stroke=\"#1d3a4f\" stroke-opacity=\".55\" stroke-width=\"{line:.1}\" stroke-linejoin=\"round\">\n");
-    for (shade, outlines) in shaded_triangles(level, view) {
+fn triangles(level: Cage<'_>, view: &View, line: f64) -> String {
+    let mut text = format!(
+        r##"<g stroke="#1d3a4f" stroke-opacity=".55" stroke-width="{line:.1}" stroke-linejoin="round">
+"##
+    );
+    for (shade, outlines) in shaded_outlines(level, view) {
         text += &format!("<path fill=\"{}\" d=\"{outlines}\"/>\n", colour(shade));
     }
-    text += "</g>\n";
-    let border = border_lines(level, view);
-    text += &format!(
-        "<path fill=\"none\" stroke=\"#c2542d\" stroke-width=\"18\" stroke-linecap=\"round\" d=\"{border}\"/>\n"
-    );
-    let (middle, base) = (PANEL[0] / 2.0, PANEL[1] + 0.5 * CAPTION);
+    text + "</g>\n"
+}
+
+fn border(level: Cage<'_>, view: &View) -> String {
+    let lines = border_lines(level, view);
+    format!(
+        r##"<path fill="none" stroke="#c2542d" stroke-width="18" stroke-linecap="round" d="{lines}"/>
+"##
+    )
+}
+
+fn caption(number: usize, level: Cage<'_>) -> String {
+    let (middle, base) = (PANEL[0] / 2.0, PANEL[1] + CAPTION / 2.0);
     let (h, v) = (level.twin.len(), level.points.len() / 3);
-    text + &format!(
-        "<text x=\"{middle}\" y=\"{base}\" text-anchor=\"middle\" fill=\"#1d3a4f\" \
-         font-family=\"sans-serif\" font-size=\"170\">level {number}: H {h}, V {v}</text>\n"
+    format!(
+        r##"<text x="{middle}" y="{base}" text-anchor="middle" fill="#1d3a4f" font-family="sans-serif" font-size="170">level {number}: H {h}, V {v}</text>
+"##
     )
 }
 
 /// The outlines of the triangles of each shade.
-fn shaded_triangles(level: Cage<'_>, view: &View) -> BTreeMap<u32, String> {
+fn shaded_outlines(level: Cage<'_>, view: &View) -> BTreeMap<u32, String> {
     let mut by_shade: BTreeMap<u32, String> = BTreeMap::new();
     for corners in level.vert.chunks_exact(3) {
         let corners = [corners[0], corners[1], corners[2]].map(|vertex| point(level, vertex));
@@ -90,12 +103,7 @@ fn shaded_triangles(level: Cage<'_>, view: &View) -> BTreeMap<u32, String> {
 /// A line for each halfedge without a twin.
 fn border_lines(level: Cage<'_>, view: &View) -> String {
     let mut lines = String::new();
-    for (h, _) in level
-        .twin
-        .iter()
-        .enumerate()
-        .filter(|(_, &twin)| twin == MARKER)
-    {
+    for h in (0..level.twin.len()).filter(|&h| level.twin[h] == MARKER) {
         let next = if h % 3 == 2 { h - 2 } else { h + 1 };
         let ends = [h, next].map(|h| view.place(point(level, level.vert[h])));
         let [[x, y], [to_x, to_y]] = ends;
