@@ -32,7 +32,8 @@ fn made_here() -> Result<PathBuf, String> {
     if made.status.success() {
         Ok(repository.join("target/host/libryebadger.a"))
     } else {
-        let said = String::from_utf8_lossy(&made.stderr);
+        let said = [made.stdout, made.stderr].concat();
+        let said = String::from_utf8_lossy(&said);
         let last = said.trim_end().lines().last().unwrap_or_default();
         Err(format!("host/build made no archive: {last}"))
     }
@@ -42,6 +43,9 @@ fn link(archive: &Path) -> Result<(), String> {
     let archive = archive
         .canonicalize()
         .map_err(|_| format!("there is no archive at {}", archive.display()))?;
+    if archive.file_name() != Some("libryebadger.a".as_ref()) {
+        return Err(format!("{} is not named libryebadger.a", archive.display()));
+    }
     let folder = archive.parent().unwrap_or(Path::new("/"));
     println!("cargo::rerun-if-changed={}", archive.display());
     println!("cargo::rustc-link-search=native={}", folder.display());
