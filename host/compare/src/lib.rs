@@ -12,12 +12,14 @@ mod files;
 mod outcome;
 mod question;
 mod suite;
+mod vertices;
 
 pub use asked::{handed, Archive, Operations, SafeCrate, SecondProgram};
 pub use files::{file_of, heads, lengths_of};
 pub use outcome::{first_difference, Difference, Outcome};
 pub use question::Question;
 pub use suite::{accepted, named, refused, room_at};
+pub use vertices::{vertices_of, Vertex};
 
 /// Puts the question to all three, which have to leave the same behind.
 pub fn assert_alike(name: &str, question: &Question) -> Outcome {

@@ -1,7 +1,7 @@
 //! Demand 3 seen from outside: what every level of the host library's output
 //! keeps of the cage, judged by the second program.
 
-use compare::{handed, named};
+use compare::{handed, named, vertices_of, Vertex};
 use ryebadger::Refined;
 use second::cage::Cage;
 use second::check::{check_any_size, CageCounts};
@@ -20,24 +20,33 @@ fn characteristic(counts: &CageCounts) -> i64 {
     (counts.vertices + counts.triangles) as i64 - counts.edges as i64
 }
 
+/// Cages of each kind, and how deep they are refined here: the second program's
+/// check is plain, and slow on large levels.
+const TRIED: [(&str, u64); 11] = [
+    ("triangle", 6),
+    ("pillow", 6),
+    ("pillow-slit", 6),
+    ("strip-2-disguised", 6),
+    ("disc-3", 6),
+    ("torus-3x3", 6),
+    ("pieces", 5),
+    ("double-pyramid-33", 5),
+    ("frame-4x5-disguised", 5),
+    ("cushion", 5),
+    ("disc-1024", 4),
+];
+
+fn refined(name: &str, depth: u64) -> Refined {
+    let refined = Refined::new(handed(&named(name)), depth).expect(name);
+    assert_eq!(refined.levels().count() as u64, depth + 1);
+    refined
+}
+
 #[test]
 fn every_level_is_accepted_and_keeps_its_counts() {
-    for (name, depth) in [
-        ("triangle", 6),
-        ("pillow", 6),
-        ("pillow-slit", 6),
-        ("strip-2-disguised", 6),
-        ("disc-3", 6),
-        ("torus-3x3", 6),
-        ("pieces", 5),
-        ("double-pyramid-33", 5),
-        ("frame-4x5-disguised", 5),
-        ("cushion", 5),
-        ("disc-1024", 4),
-    ] {
-        let cage = named(name);
-        let first = check_any_size(&cage).expect(name);
-        let refined = Refined::new(handed(&cage), depth).expect(name);
+    for (name, depth) in TRIED {
+        let first = check_any_size(&named(name)).expect(name);
+        let refined = refined(name, depth);
         let told = refined.counts();
         for (d, level) in refined.levels().enumerate() {
             let counted = check_any_size(&owned(level)).expect(name);
@@ -48,6 +57,27 @@ fn every_level_is_accepted_and_keeps_its_counts() {
             let from_tables = [counted.halfedges, counted.edges, counted.vertices];
             assert_eq!(of_level.map(u64::from), from_tables, "{name}");
         }
-        assert_eq!(refined.levels().count() as u64, depth + 1);
+    }
+}
+
+#[test]
+fn vertices_keep_their_corners_and_new_ones_have_six_or_three() {
+    for (name, depth) in TRIED {
+        let refined = refined(name, depth);
+        let levels: Vec<Vec<Vertex>> = refined
+            .levels()
+            .map(|level| vertices_of(&owned(level)))
+            .collect();
+        for (old, new) in levels.iter().zip(&levels[1..]) {
+            let (kept, added) = new.split_at(old.len());
+            for (old, kept) in old.iter().zip(kept) {
+                assert_eq!(old.corners, kept.corners, "{name}");
+                assert_eq!(old.is_on_border(), kept.is_on_border(), "{name}");
+            }
+            for vertex in added {
+                let expected = if vertex.is_on_border() { 3 } else { 6 };
+                assert_eq!(vertex.corners, expected, "{name}");
+            }
+        }
     }
 }

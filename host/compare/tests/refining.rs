@@ -1,7 +1,8 @@
 //! Refining: the answer and every cell of the four lent tables.
 
-use compare::{accepted, assert_alike, named, refused, room_at, Outcome, Question};
-use second::cage::{Cage, MARKER};
+use compare::{
+    accepted, assert_alike, named, refused, room_at, vertices_of, Outcome, Question, Vertex,
+};
 use second::suite::SuiteCage;
 
 /// Every accepted cage at every depth, into tables of which one is as long as
@@ -110,25 +111,10 @@ fn several_tables_short_at_once() {
     }
 }
 
-/// How many corners each vertex has, and the far ends of its border edges.
-fn corners_and_border_ends(cage: &Cage) -> Vec<(usize, Vec<u32>)> {
-    let mut found = vec![(0, Vec::new()); cage.vertex_count()];
-    for h in 0..cage.halfedge_count() {
-        let next = if h % 3 == 2 { h - 2 } else { h + 1 };
-        let (from, to) = (cage.vert[h], cage.vert[next]);
-        found[from as usize].0 += 1;
-        if cage.twin[h] == MARKER {
-            found[from as usize].1.push(to);
-            found[to as usize].1.push(from);
-        }
-    }
-    found
-}
-
 /// What the comparison above is about is really in the suite.
 #[test]
 fn the_suite_has_each_kind_of_cage() {
-    let kinds = |name: &str| corners_and_border_ends(&named(name));
+    let kinds = |name: &str| vertices_of(&named(name));
     for (name, valence) in [
         ("disc-3", 3),
         ("tetrahedron", 3),
@@ -138,7 +124,7 @@ fn the_suite_has_each_kind_of_cage() {
         ("double-pyramid-33", 33),
         ("disc-1024", 1_024),
     ] {
-        let is_such = |(corners, ends): &(usize, Vec<u32>)| *corners == valence && ends.is_empty();
+        let is_such = |vertex: &Vertex| vertex.corners == valence && !vertex.is_on_border();
         assert!(kinds(name).iter().any(is_such), "{name}");
     }
     assert_eq!(named("strip-2").triangle_count(), 2);
@@ -155,8 +141,12 @@ fn the_suite_has_each_kind_of_cage() {
     // Triangles that share nothing, and pieces of several kinds.
     assert_eq!(named("triangles-8").border_count(), 24);
     assert!(named("pieces").triangle_count() > 10);
-    let same_ends = |(_, ends): &(usize, Vec<u32>)| ends.len() == 2 && ends[0] == ends[1];
-    assert!(kinds("pillow-slit").iter().any(same_ends));
+    let has_one_neighbour_twice = |vertex: &Vertex| match vertex.border_neighbours[..] {
+        [first, second] => first == second,
+        _ => false,
+    };
+    let slit = kinds("pillow-slit");
+    assert!(slit.iter().any(has_one_neighbour_twice));
     let points = |name: &str| named(name).points;
     assert!(points("octahedron-negative").iter().all(|&c| c < 0));
     assert!(points("triangle-lowest").iter().all(|&c| c == -1_048_576));

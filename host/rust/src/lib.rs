@@ -11,7 +11,7 @@
 //! | refine a cage | [`Refined::new`], or [`refine`] into lent tables |
 //! | get a triangle's corners | [`corners`] |
 //! | read a cage file | [`OwnedCage::read`], or [`read`] into lent tables |
-//! | write a cage file | [`Cage::to_file`], or [`write`] into a lent buffer |
+//! | write a cage file | [`Cage::to_file`], or [`write()`] into a lent buffer |
 //!
 //! Nothing here panics on any input. `check`, `counts`, `refine`, `corners`,
 //! `read` and `write` allocate nothing; the others end the program, as Rust
