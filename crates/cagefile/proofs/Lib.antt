@@ -10,3 +10,4 @@ pub mod ReadBack
 pub mod WriteBack
 pub mod RoundTrips
 pub mod WriteChecks
+pub mod Prefix
