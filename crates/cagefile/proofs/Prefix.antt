@@ -1,5 +1,6 @@
 -- Why a buffer of 43,033 bytes is enough to read from: past the longest file that reads, more bytes change nothing. Assumes nothing.
 --     longer-alike        reading the first n bytes of a file, n above 43,032, answers as reading all of it
+--     too-long            a file of more than 43,032 bytes is refused
 --     longer-read-alike   and leaves the same in the lent tables
 use Prim.Native.Nat.{ℕ, _+_, _*_, _≤_, _<_}
 use mathlib.Core.Path.{_≡_, sym, ap, ap₂, _∙_}
@@ -37,6 +38,10 @@ first-after vs ws us e = by (ℕ-discrete (first vs .number) 0)
     by : Dec (first vs .number ≡ 0) → first (vs ++ ws) ≡ first (vs ++ us)
     by (yes z) = let d = first-zero vs z in first-more vs ws d ∙ e d ∙ sym (first-more vs us d)
     by (no z) = first-refused-before ws vs z ∙ sym (first-refused-before us vs z)
+
+pub too-long : (f : List ℕ) → most < length f → (lent : Tables) (lentPoints : List ℤ) → readVerdict f lent lentPoints .number ≢ 0
+unfolding readVerdict
+too-long f l lent lentPoints z = omega (arith, sound-at-most f (read-sound f lent lentPoints (first-zero _ z)))
 
 -- two files longer than any that reads, with the same bytes as far as those go
 module _ (f g : List ℕ) (long : most < length f) (also : most < length g) (same : (i : ℕ) → i ≤ most → getD g i 0 ≡ getD f i 0) where
@@ -86,13 +91,9 @@ module _ (f g : List ℕ) (long : most < length f) (also : most < length g) (sam
         (λ _. first-after (openingChecks f) _ _
         (λ e. ap (λ vs. first (vs ++ rest)) (fields-alike (heads (HIn f) (VIn f)) (past 0 opening) (within e)))))
 
-    refused : readVerdict f lent lentPoints .number ≢ 0
-    unfolding readVerdict
-    refused z = omega (arith, sound-at-most f (read-sound f lent lentPoints (first-zero _ z)))
-
     read-alike : readFile g lent lentPoints ≡ readFile f lent lentPoints
     unfolding readFile said filledTables filled
-    read-alike = rw (verdict-alike, ne-eqb (readVerdict f lent lentPoints .number) 0 refused)
+    read-alike = rw (verdict-alike, ne-eqb (readVerdict f lent lentPoints .number) 0 (too-long f long lent lentPoints))
 
 module _ (f : List ℕ) (n : ℕ) (enough : most < n) (lent : Tables) (lentPoints : List ℤ) where
   -- a file that n bytes hold is all there, and of any other the first n are too many already
