@@ -10,7 +10,7 @@ use mathlib.Core.List.{List, [], _∷_, _++_, append-assoc}
 use native.Mathlib.Nat.{add-zero, le-refl}
 use native.Mathlib.Numerals.{add-one}
 use native.Mathlib.Omega.{arith}
-use lib.ListN.{length, getD, take, drop, set, length-append, take-append-drop}
+use lib.ListN.{length, getD, take, set, length-append, take-append-drop}
 use lib.Seq.{paste, paste-suc, length-paste, take-length, drop-drop}
 use Rattle.io.specs.Digits.{digits, Fewest}
 use Rattle.laws.specs.Parts.{splice}

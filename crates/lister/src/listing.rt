@@ -5,13 +5,11 @@ ghost use lib.ListN.{length};
 ghost use Rattle.io.specs.Counts.{Counts};
 ghost use Rattle.laws.specs.Below.{endToEnd};
 ghost use Rattle.laws.specs.Parts.{inFront};
-ghost use Rattle.halfedges.specs.Cage.{most-halfedges, most-vertices, most-depth};
+ghost use Rattle.halfedges.specs.Cage.{most-halfedges, most-vertices};
 ghost use Rattle.halfedges.specs.Refusals.{told};
-ghost use Rattle.halfedges.specs.Counts.{AtMost, levels as Counts·levels};
 ghost use Rattle.connectivity.specs.Tables.{tables};
 ghost use Rattle.lister.specs.Listing.{levelLine, levelLines, refusedLine, cageListing, listing};
 ghost use Rattle.lister.specs.Put.{Put, doubled};
-use crate::room;
 use crate::text;
 use halfedges::answer::Answer;
 use halfedges::table::HalfedgeTable;
@@ -24,10 +22,10 @@ pub fn list(file: &[u8], out: &mut [u8; 1024]) -> usize
         ⌜ (now (out .exit) ≡ inFront text (now (out .entry))) × (r ≡ length text) ⌝ }
     ensures { λ r. ⌜ Counts r (now (out .exit)) ⌝ }
 {
-    let mut twin = room::table();
-    let mut vert = room::table();
-    let mut edge = room::table();
-    let mut points = room::points();
+    let mut twin = [0u32; HalfedgeTable::MOST_HALFEDGES];
+    let mut vert = [0u32; HalfedgeTable::MOST_HALFEDGES];
+    let mut edge = [0u32; HalfedgeTable::MOST_HALFEDGES];
+    let mut points = [0i32; 3 * HalfedgeTable::MOST_VERTICES];
     list_file(file, &mut twin, &mut vert, &mut edge, &mut points, out)
 }
 

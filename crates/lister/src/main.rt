@@ -5,14 +5,14 @@ ghost use Rattle.lister.specs.Listing.{longest};
 
 mod input;
 mod listing;
-mod room;
 mod text;
 
 use libc::STDERR_FILENO;
 use libc::STDOUT_FILENO;
 
 fn main() {
-    let mut file = room::file();
+    // one byte more than the longest file that reads
+    let mut file = [0u8; 43033];
     list_input(&mut file);
 }
 

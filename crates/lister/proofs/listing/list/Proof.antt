@@ -8,18 +8,6 @@ use lib.Seq.{length-take-le}
 use Rattle.lister.proofs.listing.list.Statement.{statement}
 use Rattle.lister.proofs.listing.list.Tie as tie
 
-table-requires : tie.Need-table-requires
-table-requires c κs = search needs
-
-table-requires-2 : tie.Need-table-requires-2
-table-requires-2 c κs = search needs
-
-table-requires-3 : tie.Need-table-requires-3
-table-requires-3 c κs = search needs
-
-points-requires : tie.Need-points-requires
-points-requires c κs = search needs
-
 slice-aggregate-list-file : tie.Need-slice-aggregate-list-file
 slice-aggregate-list-file c = search needs
 
@@ -45,10 +33,6 @@ pub list-spec : {M : Type 1} → statement M
 list-spec =
     tie.close
     (tie.spec
-    table-requires
-    table-requires-2
-    table-requires-3
-    points-requires
     slice-aggregate-list-file
     slice-aggregate-list-file-2
     slice-aggregate-list-file-3
