@@ -1,0 +1,80 @@
+#include "cages.h"
+
+#include <cmath>
+#include <map>
+#include <utility>
+
+namespace {
+
+constexpr uint32_t kRows = 16;
+constexpr double kTurn = 6.283185307179586;  // a full turn, in radians
+
+// A cage from the corners of its triangles: two halfedges are twins where they join the same vertices, opposite ways.
+Cage sewn(const std::vector<uint32_t>& corners) {
+  Cage cage;
+  cage.vert = corners;
+  std::map<std::pair<uint32_t, uint32_t>, uint32_t> joining;
+  for (uint32_t h = 0; h < corners.size(); ++h) joining[{corners[h], corners[next(h)]}] = h;
+  uint32_t edges = 0;
+  for (uint32_t h = 0; h < corners.size(); ++h) {
+    const auto found = joining.find({corners[next(h)], corners[h]});
+    const uint32_t twin = found == joining.end() ? kNoTwin : found->second;
+    cage.twin.push_back(twin);
+    cage.edge.push_back(twin < h ? cage.edge[twin] : edges++);
+  }
+  return cage;
+}
+
+// Squares of two triangles each; a grid as high or as wide as its squares closes on itself that way.
+Cage grid(uint32_t columns, uint32_t high, uint32_t wide) {
+  const auto at = [=](uint32_t row, uint32_t column) { return row % high * wide + column % wide; };
+  std::vector<uint32_t> corners;
+  for (uint32_t r = 0; r < kRows; ++r)
+    for (uint32_t c = 0; c < columns; ++c)
+      for (uint32_t corner : {at(r, c), at(r, c + 1), at(r + 1, c + 1), at(r, c), at(r + 1, c + 1), at(r + 1, c)})
+        corners.push_back(corner);
+  return sewn(corners);
+}
+
+void add_point(Cage& cage, double x, double y, double z) {
+  for (double millimetres : {x, y, z}) cage.points.push_back(int32_t(std::lround(1024 * millimetres)));
+}
+
+}  // namespace
+
+Counts Cage::counts() const {
+  uint32_t edges = 0;
+  for (uint32_t h = 0; h < twin.size(); ++h) edges += twin[h] == kNoTwin || twin[h] < h;
+  return {uint32_t(twin.size()), edges, uint32_t(points.size() / 3)};
+}
+
+Cage torus(uint32_t columns) {
+  Cage cage = grid(columns, kRows, columns);
+  for (uint32_t r = 0; r < kRows; ++r)
+    for (uint32_t c = 0; c < columns; ++c) {
+      const double around = kTurn * c / columns, across = kTurn * r / kRows, out = 140 + 60 * std::cos(across);
+      add_point(cage, out * std::cos(around), out * std::sin(around), 60 * std::sin(across));
+    }
+  return cage;
+}
+
+Cage sheet(uint32_t columns) {
+  Cage cage = grid(columns, kRows + 1, columns + 1);
+  for (uint32_t r = 0; r <= kRows; ++r)
+    for (uint32_t c = 0; c <= columns; ++c) {
+      const double x = 400.0 * c / columns - 200, y = 200.0 * r / kRows - 100;
+      add_point(cage, x, y, 1e-3 * (x * x + y * y));
+    }
+  return cage;
+}
+
+Cage wheel(uint32_t triangles) {
+  std::vector<uint32_t> corners;
+  for (uint32_t i = 0; i < triangles; ++i)
+    for (uint32_t corner : {0u, 1 + i, 1 + (i + 1) % triangles}) corners.push_back(corner);
+  Cage cage = sewn(corners);
+  add_point(cage, 0, 0, 30);
+  for (uint32_t i = 0; i < triangles; ++i)
+    add_point(cage, 200 * std::cos(kTurn * i / triangles), 200 * std::sin(kTurn * i / triangles), 0);
+  return cage;
+}

@@ -1,0 +1,42 @@
+// The cages that are timed, and document 01's words for their tables.
+#pragma once
+
+#include <cstddef>
+#include <cstdint>
+#include <vector>
+
+constexpr uint32_t kNoTwin = UINT32_MAX;
+constexpr int kDepth = 6;
+
+inline uint32_t next(uint32_t h) { return h % 3 == 2 ? h - 2 : h + 1; }
+inline uint32_t prev(uint32_t h) { return h % 3 == 0 ? h + 2 : h - 1; }
+
+// H, E and V of a level.
+struct Counts {
+  uint32_t halfedges, edges, vertices;
+
+  Counts finer() const { return {4 * halfedges, 2 * edges + halfedges, vertices + edges}; }
+};
+
+// TWIN, VERT and EDGE of halfedges and x, y, z of vertices in 1/1024 mm: a cage's, or of levels end to end.
+struct Tables {
+  std::vector<uint32_t> twin, vert, edge;
+  std::vector<int32_t> points;
+
+  bool operator==(const Tables& other) const {
+    return twin == other.twin && vert == other.vert && edge == other.edge && points == other.points;
+  }
+};
+
+struct Cage : Tables {
+  Counts counts() const;
+};
+
+// 16 by columns squares of two triangles each: a torus 400 mm wide, every vertex of six corners.
+Cage torus(uint32_t columns);
+
+// As many squares in a sheet of 400 mm by 200 mm, slightly hollow, with a border.
+Cage sheet(uint32_t columns);
+
+// Triangles round one inner vertex.
+Cage wheel(uint32_t triangles);

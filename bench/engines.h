@@ -1,0 +1,24 @@
+// The engines beside the proved library.
+#pragma once
+
+#include "cages.h"
+
+// Levels 0 to the depth end to end in lent tables that are long enough, with no check.
+void refine_plain(const Cage& cage, int depth, Tables& lent);
+void refine_tuned(const Cage& cage, int depth, Tables& lent);
+void refine_by_fours(const Cage& cage, int depth, Tables& lent);
+
+// The libraries allocate for themselves. Timed is their refining alone: neither making their own form of the cage nor
+// freeing what they made. They tell what the last level has, so that it can be held to document 01's counts.
+struct Foreign {
+  double seconds;
+  size_t triangles, vertices;
+};
+
+Foreign refine_opensubdiv(const Cage& cage, int depth);
+Foreign refine_openmesh(const Cage& cage, int depth);
+Foreign refine_cgal(const Cage& cage, int depth);
+
+// The largest distance between the points of the last of our levels and OpenSubdiv's, in 1/1024 mm. Only where every vertex
+// has six corners or lies on a border are the two rules the same.
+double distance_to_opensubdiv(const Cage& cage, int depth, const Tables& levels);

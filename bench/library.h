@@ -1,0 +1,9 @@
+// The proved library's operations on the cages here. A refusal ends the run: every cage here is valid.
+#pragma once
+
+#include "cages.h"
+
+void library_refine(const Cage& cage, int depth, Tables& lent);
+void library_check(const Cage& cage);
+void library_write(const Cage& cage, std::vector<uint8_t>& file);
+void library_read(const std::vector<uint8_t>& file, Tables& lent);
