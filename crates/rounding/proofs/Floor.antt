@@ -1,40 +1,62 @@
--- What the two arms of the floor division compute: `above-is`, `below-is`, `floor-below`, `floor-above`. Assumes nothing.
-use Prim.Native.Nat.{ℕ, zero, suc, _/_, _<_}
-use mathlib.Core.Path.{_≡_, refl, ap, _∙_}
-use mathlib.Core.Bool.{true, false, true≢false}
-use native.Mathlib.Nat.{zero-add, div-le-self, lt-of-le-of-lt, not-suc-le-zero}
-use lib.Dec.{ltb→lt}
-use lib.IntN.{ℤ, pos, negsuc, _-ℤ_, +ℤ-comm, +ℤ-idr, -ℤ-one}
-use lib.Signed.{mag, ltZ, quotZ, _<ℤ_}
-use borrow.Author.Tests.{ltb-true}
+-- A floor by way of a numerator that is raised by some wholes and so not negative: `raised-is`, `raised-small`, `raised-floor`.
+-- What is divided fits where the numerator does: `floor-fits`. Assumes nothing.
+use Prim.Native.Nat.{ℕ, suc, _+_, _-_, _*_, _/_, _≤_, _<_}
+use mathlib.Core.Path.{_≡_, refl, sym, ap, _∙_}
+use native.Mathlib.Nat.{div-le-self, lt-of-le-of-lt, add-mul-div-right, div-mul-le-self, lt-div-mul-add, div-eq-of-lt-le, div-lt-iff-lt-mul, mul-sub, mul-comm, add-mul, one-mul, suc-mul, mul-le-mul-right}
+use native.Mathlib.Omega.{arith}
+use lib.IntN.{ℤ, pos, negsuc, negℤ, natAbs, subℕ, _+ℤ_, _-ℤ_, +ℤ-comm}
 use mir.Syntax.{Width}
-use mir.Val.{SFits, ofZ}
+use mir.Val.{SFits}
+use Rattle.laws.proofs.Integers.{subℕ-pos, subℕ-neg, neg-add}
 use Rattle.rounding.specs.Rounding.{floor}
 
--- −1 − n of a negative n
-pub above-is : (n : ℤ) → ltZ n (pos 0) ≡ true → negsuc 0 -ℤ n ≡ pos (mag n)
-above-is (pos a) t = absurd (not-suc-le-zero (ltb-true a 0 t))
-above-is (negsuc a) t = +ℤ-comm (negsuc 0) (pos (suc a)) ∙ -ℤ-one (pos (suc a))
+-- a number of at most m, raised by m
+abbrev pub raised : ℤ → ℕ → ℕ
+raised (pos a) m = a + m
+raised (negsuc a) m = m - suc a
 
--- −1 − k
-pub below-is : (k : ℕ) → negsuc 0 -ℤ pos k ≡ negsuc k
-below-is zero = +ℤ-idr (negsuc 0)
-below-is (suc k) = ap (λ j. negsuc (suc j)) (zero-add k)
+pub raised-is : (n : ℤ) (m : ℕ) → natAbs n ≤ m → n +ℤ pos m ≡ pos (raised n m)
+raised-is (pos a) m l = refl
+raised-is (negsuc a) m l = neg-add (suc a) m ∙ subℕ-pos m (suc a) l
 
-pub floor-below : (n : ℤ) (d : ℕ) → ltZ n (pos 0) ≡ true → negsuc (mag n / d) ≡ floor n d
-floor-below (pos a) d t = absurd (not-suc-le-zero (ltb-true a 0 t))
-floor-below (negsuc a) d t = refl
+pub raised-small : (n : ℤ) (m : ℕ) → natAbs n < m → raised n m < 2 * m
+raised-small (pos a) m l = omega arith
+raised-small (negsuc a) m l = omega arith
 
-pub floor-above : (n : ℤ) (d : ℕ) → ltZ n (pos 0) ≡ false → quotZ n (pos d) ≡ floor n d
-floor-above (pos a) d t = refl
-floor-above (negsuc a) d t = absurd (true≢false t)
+-- k taken away
+less : (x k : ℕ) → pos x -ℤ pos k ≡ subℕ x k
+less x k = +ℤ-comm (pos x) (negℤ (pos k)) ∙ neg-add k x
 
--- what is divided fits
-pub quotient-fits : (w : Width) (n : ℤ) (d : ℕ) → SFits w n → SFits w (floor n d) × SFits w (pos (mag n / d))
-quotient-fits w (pos a) d f = (record { sfits = lt-of-le-of-lt (div-le-self a d) (f .sfits) }, record { sfits = lt-of-le-of-lt (div-le-self a d) (f .sfits) })
-quotient-fits w (negsuc a) d f = (record { sfits = lt-of-le-of-lt (div-le-self a d) (f .sfits) }, record { sfits = lt-of-le-of-lt (div-le-self a d) (f .sfits) })
+-- differences of multiples
+multiples-less : (m n d : ℕ) → (m - n) * d ≡ m * d - n * d
+multiples-less m n d = mul-comm (m - n) d ∙ mul-sub d m n ∙ rw (mul-comm d m, mul-comm d n)
 
--- a positive number's bits are not 0
-pub some-bits : (w : Width) (d : ℤ) → pos 0 <ℤ d → 0 < ofZ w d
-some-bits w (pos d) l = ltb→lt 0 d (l .lt)
-some-bits w (negsuc d) l = absurd (l .lt)
+module _ (k d : ℕ) (some : 0 < d) where
+  module _ (a : ℕ) (l : a < k * d) where
+    wholes-below : a / d < k
+    wholes-below = div-lt-iff-lt-mul some .1 l
+
+    below-quotient : (k * d - suc a) / d ≡ k - suc (a / d)
+    below-quotient =
+        let low = div-mul-le-self a d in
+        let high = lt-div-mul-add {a = a} some in
+        let some-wholes : suc (a / d) * d ≤ k * d = mul-le-mul-right d (omega (arith, wholes-below)) in
+        let e = multiples-less k (suc (a / d)) d in
+        let f = suc-mul (a / d) d in
+        let g = add-mul (k - suc (a / d)) 1 d in
+        div-eq-of-lt-le {k = k - suc (a / d)} d {m = k * d - suc a}
+        (omega (arith, low, high, some-wholes, e, f, one-mul d))
+        (omega (arith, low, high, some-wholes, e, f, g, one-mul d))
+
+  pub raised-floor : (n : ℤ) → natAbs n < k * d → pos (raised n (k * d) / d) -ℤ pos k ≡ floor n d
+  raised-floor (pos a) l =
+      less (raised (pos a) (k * d) / d) k ∙ rw (add-mul-div-right a k some, subℕ-pos (a / d + k) k (omega arith)) (ap pos (omega arith))
+  raised-floor (negsuc a) l =
+      let m : a < k * d = omega arith in
+      let q = wholes-below a m in
+      less (raised (negsuc a) (k * d) / d) k
+      ∙ rw (below-quotient a m, subℕ-neg (k - suc (a / d)) k (omega (arith, q))) (ap negsuc (omega (arith, q)))
+
+pub floor-fits : (w : Width) (n : ℤ) (d : ℕ) → SFits w n → SFits w (floor n d)
+floor-fits w (pos a) d f = record { sfits = lt-of-le-of-lt (div-le-self a d) (f .sfits) }
+floor-fits w (negsuc a) d f = record { sfits = lt-of-le-of-lt (div-le-self a d) (f .sfits) }

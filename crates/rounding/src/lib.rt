@@ -1,21 +1,21 @@
 // Rounding: a numerator over a positive denominator, down, and to the nearest whole number.
 ghost use mathlib.Core.Path.{_≡_};
-ghost use Prim.Native.Nat.{_-_, _*_, _^_, _≤_};
+ghost use Prim.Native.Nat.{_-_, _*_, _^_, _≤_, _<_};
 ghost use lib.IntN.{pos, natAbs};
 ghost use lib.Signed.{_<ℤ_};
 ghost use Rattle.rounding.specs.Rounding.{floor, round};
 
-// Rounded down: a negative numerator is divided as -1 minus what lies above it, never toward zero.
+// Wholes added before a division and taken away after it, so that no negative number is divided.
+const WHOLES: i64 = 2147483648;
+
+// Rounded down, and never toward zero: with some wholes more the numerator is not negative.
 pub fn floor_division(numerator: i64, denominator: i64) -> i64
-    requires { ⌜ pos 0 <ℤ denominator ⌝ }
+    requires { ⌜ (pos 0 <ℤ denominator) × (natAbs denominator ≤ 2 ^ 31) × (natAbs numerator < 2 ^ 31 * natAbs denominator) ⌝ }
     ensures { λ r. ⌜ r ≡ floor numerator (natAbs denominator) ⌝ }
 {
-    if numerator < 0 {
-        let above = -1 - numerator;
-        let quotient = above / denominator;
-        return -1 - quotient;
-    }
-    numerator / denominator
+    let raised = numerator + WHOLES * denominator;
+    let quotient = raised as u64 / denominator as u64;
+    quotient as i64 - WHOLES
 }
 
 // Rounded to the nearest whole number, halves going up, and narrowed: the numerator is at most as many denominators as an i32 can say.

@@ -1,68 +1,88 @@
--- `floor_division` divides a number that is not negative; what it makes of the quotient is the definition's, case by case.
-use Prim.Native.Nat.{_/_}
-use mathlib.Core.Path.{_≡_, ap, _∙_}
-use mathlib.Core.Bool.{true}
-use lib.IntN.{ℤ, pos, negsuc, natAbs, _-ℤ_}
-use lib.Signed.{mag, ltZ, quotZ}
+-- `floor_division` divides a number that is not negative, since some wholes were added; without them it is the floor.
+use Prim.Native.Nat.{ℕ, _*_, _/_, _<_}
+use mathlib.Core.Path.{_≡_, ap}
+use native.Mathlib.Nat.{div-le-self, lt-of-le-of-lt}
+use native.Mathlib.Omega.{arith}
+use lib.IntN.{ℤ, pos, natAbs, _+ℤ_, _-ℤ_, _*ℤ_}
 use mir.Syntax.{w64}
-use mir.Val.{SFits, toZ, ofZ}
+use mir.Val.{SFits}
 use mir.Facts.{toZ-ofZ}
-use Rattle.laws.proofs.Integers.{pos-of}
+use Rattle.laws.proofs.Integers.{pos-of, small-fits}
 use Rattle.rounding.specs.Rounding.{floor}
-use Rattle.rounding.proofs.Floor.{above-is, below-is, floor-below, floor-above, quotient-fits, some-bits}
+use Rattle.rounding.proofs.Floor.{raised, raised-is, raised-small, raised-floor, floor-fits}
 use Rattle.rounding.proofs.floor_division.Statement.{statement}
 use Rattle.rounding.proofs.floor_division.Tie as tie
+
+abbrev wholes : ℕ
+wholes = 2147483648
 
 module _ (s : tie.Start) where
   abbrev n : ℤ
   n = s .args .numerator
 
-  abbrev d : ℤ
-  d = s .args .denominator
+  abbrev d : ℕ
+  d = natAbs (s .args .denominator)
 
-  fits : SFits w64 (floor n (natAbs d)) × SFits w64 (pos (mag n / natAbs d))
-  fits = quotient-fits w64 n (natAbs d) (s .fits .numerator)
+  denominator-is : s .args .denominator ≡ pos d
+  denominator-is = pos-of _ (s .pre .0) .0
 
-module _ (c : tie.Then1) where
-  negative : ltZ (n (c .before)) (pos 0) ≡ true
-  negative = rw (toZ-ofZ (c .before .fits .numerator)) at (c .if1 .taken)
+  some : 0 < d
+  some = pos-of _ (s .pre .0) .1
 
-  above-fits : SFits w64 (pos (mag (n (c .before))))
-  above-fits = record { sfits = c .before .fits .numerator .sfits }
+  added : pos wholes *ℤ s .args .denominator ≡ pos (wholes * d)
+  added = ap (λ z. pos wholes *ℤ z) denominator-is
 
-  quotient : quotZ (toZ w64 (ofZ w64 (negsuc 0 -ℤ toZ w64 (ofZ w64 (n (c .before)))))) (toZ w64 (ofZ w64 (d (c .before)))) ≡ pos (mag (n (c .before)) / natAbs (d (c .before)))
-  quotient =
-      rw (toZ-ofZ (c .before .fits .numerator), above-is _ negative, toZ-ofZ above-fits, toZ-ofZ (c .before .fits .denominator))
-      (ap (quotZ (pos (mag (n (c .before))))) (pos-of _ (c .before .pre) .0))
+  added-fits : SFits w64 (pos (wholes * d))
+  added-fits = small-fits w64 _ (omega (arith, s .pre .1))
 
-  result : negsuc 0 -ℤ toZ w64 (ofZ w64 (quotZ (toZ w64 (ofZ w64 (negsuc 0 -ℤ toZ w64 (ofZ w64 (n (c .before)))))) (toZ w64 (ofZ w64 (d (c .before)))))) ≡ floor (n (c .before)) (natAbs (d (c .before)))
-  result = rw (quotient, toZ-ofZ (fits (c .before) .1)) (below-is _ ∙ floor-below (n (c .before)) (natAbs (d (c .before))) negative)
+  sum : n +ℤ pos (wholes * d) ≡ pos (raised n (wholes * d))
+  sum = raised-is n (wholes * d) (omega (arith, s .pre .2))
 
-sub-above : tie.Need-sub-above
-sub-above c = rw (toZ-ofZ (c .before .fits .numerator), above-is _ (negative c)) (above-fits c)
+  sum-fits : SFits w64 (pos (raised n (wholes * d)))
+  sum-fits = small-fits w64 _ (omega (arith, s .pre .1, raised-small n (wholes * d) (omega (arith, s .pre .2))))
+
+  quotient-fits : SFits w64 (pos (raised n (wholes * d) / d))
+  quotient-fits = record { sfits = lt-of-le-of-lt (div-le-self (raised n (wholes * d)) d) (sum-fits .sfits) }
+
+  result : pos (raised n (wholes * d) / d) -ℤ pos wholes ≡ floor n d
+  result = raised-floor wholes d some n (omega (arith, s .pre .2))
+
+  result-fits : SFits w64 (floor n d)
+  result-fits = floor-fits w64 n d (s .fits .numerator)
+
+mul-raised : tie.Need-mul-raised
+mul-raised s = rw (toZ-ofZ (s .fits .denominator), added s) (added-fits s)
+
+add-raised : tie.Need-add-raised
+add-raised s = rw (toZ-ofZ (s .fits .numerator), toZ-ofZ (s .fits .denominator), added s, toZ-ofZ (added-fits s), sum s) (sum-fits s)
+
+cast-quotient : tie.Need-cast-quotient
+cast-quotient s = rw (toZ-ofZ (s .fits .numerator), toZ-ofZ (s .fits .denominator), added s, toZ-ofZ (added-fits s), sum s, toZ-ofZ (sum-fits s)) (tt, omega (arith, s .pre .1, raised-small (n s) (wholes * d s) (omega (arith, s .pre .2))))
+
+cast-quotient-2 : tie.Need-cast-quotient-2
+cast-quotient-2 s = rw (toZ-ofZ (s .fits .denominator), denominator-is s) (tt, omega (arith, s .pre .1))
 
 div-quotient : tie.Need-div-quotient
-div-quotient c = (some-bits w64 _ (c .before .pre), rw (quotient c) (fits (c .before) .1))
+div-quotient s = rw (toZ-ofZ (s .fits .denominator)) (some s)
+
+cast-result : tie.Need-cast-result
+cast-result s = rw (toZ-ofZ (s .fits .numerator), toZ-ofZ (s .fits .denominator), added s, toZ-ofZ (added-fits s), sum s, toZ-ofZ (sum-fits s)) (quotient-fits s)
 
 sub-result : tie.Need-sub-result
-sub-result c = rw (result c) (fits (c .before) .0)
+sub-result s = rw (toZ-ofZ (s .fits .numerator), toZ-ofZ (s .fits .denominator), added s, toZ-ofZ (added-fits s), sum s, toZ-ofZ (sum-fits s), toZ-ofZ (quotient-fits s), result s) (result-fits s)
 
 returns : tie.Need-returns
-returns c = rw (result c) (toZ-ofZ (fits (c .before) .0))
-
-module _ (c : tie.Else1) where
-  quotient-above : quotZ (toZ w64 (ofZ w64 (n (c .before)))) (toZ w64 (ofZ w64 (d (c .before)))) ≡ floor (n (c .before)) (natAbs (d (c .before)))
-  quotient-above =
-      rw (toZ-ofZ (c .before .fits .numerator), toZ-ofZ (c .before .fits .denominator))
-      (ap (quotZ (n (c .before))) (pos-of _ (c .before .pre) .0)
-      ∙ floor-above (n (c .before)) (natAbs (d (c .before))) (rw (toZ-ofZ (c .before .fits .numerator)) at (c .if1 .left)))
-
-div-result : tie.Need-div-result
-div-result c = (some-bits w64 _ (c .before .pre), rw (quotient-above c) (fits (c .before) .0))
-
-returns-2 : tie.Need-returns-2
-returns-2 c = rw (quotient-above c) (toZ-ofZ (fits (c .before) .0))
+returns s = rw (toZ-ofZ (s .fits .numerator), toZ-ofZ (s .fits .denominator), added s, toZ-ofZ (added-fits s), sum s, toZ-ofZ (sum-fits s), toZ-ofZ (quotient-fits s), result s) (toZ-ofZ (result-fits s))
 
 pub floor-division-spec : {M : Type 1} → statement M
 floor-division-spec =
-    tie.close (tie.spec sub-above div-quotient sub-result returns div-result returns-2)
+    tie.close
+    (tie.spec
+    mul-raised
+    add-raised
+    cast-quotient
+    cast-quotient-2
+    div-quotient
+    cast-result
+    sub-result
+    returns)

@@ -54,7 +54,12 @@ mul-bottom : tie.Need-mul-bottom
 mul-bottom s = rw (toZ-ofZ (s .fits .denominator)) (bottom-fits s)
 
 floor-division-requires : tie.Need-floor-division-requires
-floor-division-requires s κs = rw (toZ-ofZ (s .fits .denominator), toZ-ofZ (bottom-fits s)) (twice _ (s .pre .0))
+floor-division-requires s κs =
+    let top = natAbs-add (pos 2 *ℤ n s) (d s) in
+    let double = natAbs-mul (pos 2) (n s) in
+    let bottom = natAbs-mul (pos 2) (d s) in
+    rw (toZ-ofZ (s .fits .numerator), toZ-ofZ (s .fits .denominator), toZ-ofZ (double-fits s), toZ-ofZ (top-fits s), toZ-ofZ (bottom-fits s))
+    (twice _ (s .pre .0), omega (arith, s .pre .1, bottom), omega (arith, s .pre .2, top, double, bottom, pos-of (d s) (s .pre .0) .1))
 
 result : (c : tie.After-floor-division) → c .floor-division .result ≡ round (c .before .args .numerator) (natAbs (c .before .args .denominator))
 result c =
