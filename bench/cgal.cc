@@ -6,7 +6,7 @@
 #include "clock.h"
 #include "engines.h"
 
-Foreign refine_cgal(const Cage& cage, int depth) {
+Foreign REFINE(const Cage& cage, int depth) {
   using Point = CGAL::Simple_cartesian<double>::Point_3;
   using Mesh = CGAL::Surface_mesh<Point>;
   Mesh mesh;

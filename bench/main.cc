@@ -63,17 +63,20 @@ std::vector<Engine> engines(Tables& levels, Tables& lent) {
   };
   return {
       {"Ryebadger, proved, with its checks", kRounds, 0, ours},
-      {"C++ tuned, a triangle at a time", kRounds, 1 / 1.1, exact(refine_tuned)},
-      {"C++ tuned, four triangles at a time", kRounds, 0, exact(refine_by_fours)},
-      {"C++ plain", kRounds, 1.5, exact(refine_plain)},
+      {"C++ scattering, in the same passes", kRounds, 1 / 1.1, exact(refine_in_passes)},
+      {"C++ scattering, in one pass", kRounds, 1 / 1.1, exact(refine_tuned)},
+      {"C++ scattering, by four triangles", kRounds, 0, exact(refine_by_fours)},
+      {"C++ plain, walking fans", kRounds, 1.5, exact(refine_plain)},
 #ifdef HAVE_OPENSUBDIV
       {"OpenSubdiv", kRounds, 7, foreign(refine_opensubdiv)},
 #endif
 #ifdef HAVE_OPENMESH
       {"OpenMesh", kSlowRounds, 25, foreign(refine_openmesh)},
+      {"OpenMesh without its own checks", kSlowRounds, 0, foreign(refine_openmesh_unchecked)},
 #endif
 #ifdef HAVE_CGAL
       {"CGAL", kSlowRounds, 25, foreign(refine_cgal)},
+      {"CGAL without its own checks", kSlowRounds, 0, foreign(refine_cgal_unchecked)},
 #endif
       {"filling the same bytes", kRounds, 0, [&](const Cage&) { return seconds([&] { fill(lent); }); }},
   };

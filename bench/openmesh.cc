@@ -5,7 +5,7 @@
 #include "clock.h"
 #include "engines.h"
 
-Foreign refine_openmesh(const Cage& cage, int depth) {
+Foreign REFINE(const Cage& cage, int depth) {
   OpenMesh::TriMesh_ArrayKernelT<> mesh;
   for (size_t i = 0; i < cage.points.size(); i += 3)
     mesh.add_vertex({float(cage.points[i]), float(cage.points[i + 1]), float(cage.points[i + 2])});
