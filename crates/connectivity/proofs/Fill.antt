@@ -1,154 +1,197 @@
--- A table whose next level is filled in, four cells for each halfedge: once all are filled in, the next level stands after
--- base, and all else is as it was (`fill-all`). Assumes nothing.
-use Prim.Native.Nat.{ℕ, zero, suc, _+_, _-_, _*_, _/_, _%_, _≤_, _<_}
-use mathlib.Core.Path.{_≡_, refl, sym, _∙_, subst}
+-- A table whose next level is filled in a triangle at a time, nine cells together and three apart: where that starts
+-- (`going-start`), one triangle more (`going-on`), and what stands there in the end (`going-done`). Assumes nothing.
+use Prim.Native.Nat.{ℕ, _+_, _-_, _*_, _≤_, _<_}
+use mathlib.Core.Path.{_≡_, refl, sym, ap, _∙_}
 use mathlib.Core.Logic.{_≢_}
 use mathlib.Core.List.{List, _++_}
 use native.Mathlib.Decide.{decLt, ℕ-discrete}
-use native.Mathlib.Nat.{not-suc-le-zero, le-refl}
+use native.Mathlib.Nat.{zero-add}
 use native.Mathlib.Omega.{arith}
-use lib.ListN.{length, getD, take, drop, set, length-set}
-use lib.Seq.{take-set-le, drop-set-lt, getD-set-same, getD-set-other, ext-getD}
+use lib.ListN.{length, take, drop, set, length-set}
+use lib.Seq.{getD-set-same, getD-set-other}
+use Rattle.connectivity.specs.declared.level.Rows.{Rows}
 use Rattle.laws.specs.Below.{tabulate}
-use Rattle.laws.specs.Parts.{part}
-use Rattle.laws.proofs.Parts.{length-part, part-at, in-three}
 use Rattle.laws.proofs.Tabulate.{length-tabulate, getD-tabulate}
-use Rattle.connectivity.specs.InPlace.{fourCells}
+use Rattle.laws.proofs.Middles.{splice-ext}
+use Rattle.halfedges.specs.Cage.{cell}
+use Rattle.connectivity.specs.InPlace.{trio, setThree, setRows}
 
--- the four new cells of halfedge h of n
-pub data Child (n h : ℕ) : ℕ → Type 0 where
-  corner : Child n h (3 * h)
-  across : Child n h (3 * h + 1)
-  back : Child n h (3 * h + 2)
-  middle : Child n h (3 * n + h)
+-- three cells stored together
+module _ (xs : List ℕ) (k a b c : ℕ) where
+  length-three : length (setThree xs k a b c) ≡ length xs
+  length-three = simp length-set
 
--- every new cell is some halfedge's
-pub child-of : (n k : ℕ) → k < 4 * n → (h : ℕ) × (h < n) × Child n h k
-child-of n k l = by (decLt k (3 * n)) (ℕ-discrete (k % 3) 0) (ℕ-discrete (k % 3) 1)
-  where
-    by : Dec (k < 3 * n) → Dec (k % 3 ≡ 0) → Dec (k % 3 ≡ 1) → (h : ℕ) × (h < n) × Child n h k
-    by (no m) z o = (k - 3 * n, omega (arith, m), subst (Child n (k - 3 * n)) (let e : 3 * n + (k - 3 * n) ≡ k = omega (arith, m) in e) middle)
-    by (yes m) (yes z) o = (k / 3, omega arith, subst (Child n (k / 3)) (let e : 3 * (k / 3) ≡ k = omega arith in e) corner)
-    by (yes m) (no z) (yes o) = (k / 3, omega arith, subst (Child n (k / 3)) (let e : 3 * (k / 3) + 1 ≡ k = omega arith in e) across)
-    by (yes m) (no z) (no o) = (k / 3, omega arith, subst (Child n (k / 3)) (let e : 3 * (k / 3) + 2 ≡ k = omega (arith, z, o) in e) back)
+  three-other : (j : ℕ) → j ≢ k → j ≢ k + 1 → j ≢ k + 2 → cell (setThree xs k a b c) j ≡ cell xs j
+  three-other j p q r =
+      getD-set-other (set (set xs k a) (k + 1) b) (k + 2) j c 0 r ∙ getD-set-other (set xs k a) (k + 1) j b 0 q ∙ getD-set-other xs k j a 0 p
 
-module _ (xs : List ℕ) (base n : ℕ) (new : ℕ → ℕ) (h : ℕ) where
-  pub length-four : length (fourCells xs base n new h) ≡ length xs
-  unfolding fourCells
-  length-four = simp length-set
+  module _ (room : k + 3 ≤ length xs) where
+    three-first : cell (setThree xs k a b c) k ≡ a
+    three-first =
+        getD-set-other (set (set xs k a) (k + 1) b) (k + 2) k c 0 (λ e. omega arith)
+        ∙ getD-set-other (set xs k a) (k + 1) k b 0 (λ e. omega arith)
+        ∙ getD-set-same xs k a 0 (omega arith)
 
-  pub front-four : take base (fourCells xs base n new h) ≡ take base xs
-  unfolding fourCells
-  front-four =
-      take-set-le base _ (base + (3 * n + h)) _ (omega arith)
-      ∙ take-set-le base _ (base + 3 * h + 2) _ (omega arith)
-      ∙ take-set-le base _ (base + 3 * h + 1) _ (omega arith)
-      ∙ take-set-le base xs (base + 3 * h) _ (omega arith)
+    three-second : cell (setThree xs k a b c) (k + 1) ≡ b
+    three-second =
+        getD-set-other (set (set xs k a) (k + 1) b) (k + 2) (k + 1) c 0 (λ e. omega arith)
+        ∙ getD-set-same (set xs k a) (k + 1) b 0 (simp length-set (omega arith))
 
-  pub back-four : h < n → drop (base + 4 * n) (fourCells xs base n new h) ≡ drop (base + 4 * n) xs
-  unfolding fourCells
-  back-four l =
-      drop-set-lt (base + 4 * n) _ (base + (3 * n + h)) _ (omega arith)
-      ∙ drop-set-lt (base + 4 * n) _ (base + 3 * h + 2) _ (omega arith)
-      ∙ drop-set-lt (base + 4 * n) _ (base + 3 * h + 1) _ (omega arith)
-      ∙ drop-set-lt (base + 4 * n) xs (base + 3 * h) _ (omega arith)
+    three-third : cell (setThree xs k a b c) (k + 2) ≡ c
+    three-third = getD-set-same (set (set xs k a) (k + 1) b) (k + 2) c 0 (simp length-set (omega arith))
 
-  -- after the first store, the second and the third
-  abbrev one : List ℕ
-  one = set xs (base + 3 * h) (new (3 * h))
+-- m cells from a place on are f's
+pub Run : List ℕ → ℕ → ℕ → (ℕ → ℕ) → Type 0
+Run ys s m f = (i : ℕ) → i < m → cell ys (s + i) ≡ f i
 
-  abbrev two : List ℕ
-  two = set one (base + 3 * h + 1) (new (3 * h + 1))
+module _ (ys : List ℕ) (s m : ℕ) (f : ℕ → ℕ) (run : Run ys s m f) where
+  run-before : (k a b c : ℕ) → s + m ≤ k → Run (setThree ys k a b c) s m f
+  unfolding Run
+  run-before k a b c l i j = three-other ys k a b c (s + i) (λ e. omega arith) (λ e. omega arith) (λ e. omega arith) ∙ run i j
 
-  abbrev three : List ℕ
-  three = set two (base + 3 * h + 2) (new (3 * h + 2))
+  run-after : (k a b c : ℕ) → k + 3 ≤ s → Run (setThree ys k a b c) s m f
+  unfolding Run
+  run-after k a b c l i j = three-other ys k a b c (s + i) (λ e. omega arith) (λ e. omega arith) (λ e. omega arith) ∙ run i j
 
-  -- a cell that is none of the four
-  pub four-other : (j : ℕ) → j ≢ base + 3 * h → j ≢ base + 3 * h + 1 → j ≢ base + 3 * h + 2 → j ≢ base + (3 * n + h) → getD (fourCells xs base n new h) j 0 ≡ getD xs j 0
-  unfolding fourCells
-  four-other j a b c d =
-      getD-set-other three (base + (3 * n + h)) j (new (3 * n + h)) 0 d
-      ∙ getD-set-other two (base + 3 * h + 2) j (new (3 * h + 2)) 0 c
-      ∙ getD-set-other one (base + 3 * h + 1) j (new (3 * h + 1)) 0 b
-      ∙ getD-set-other xs (base + 3 * h) j (new (3 * h)) 0 a
+  -- three cells stored at its end
+  run-more : (k a b c : ℕ) → k ≡ s + m → k + 3 ≤ length ys → a ≡ f m → b ≡ f (m + 1) → c ≡ f (m + 2) → Run (setThree ys k a b c) s (m + 3) f
+  unfolding Run
+  run-more k a b c e room p q r i l = by (decLt i m) (ℕ-discrete i m) (ℕ-discrete i (m + 1))
+    where
+      new : {j : ℕ} → i ≡ j → {v : ℕ} → cell (setThree ys k a b c) (s + j) ≡ v → v ≡ f j → cell (setThree ys k a b c) (s + i) ≡ f i
+      new d x y = rw d (x ∙ y)
 
-  -- one of the four
-  pub four-is : {k : ℕ} → h < n → base + 4 * n ≤ length xs → Child n h k → getD (fourCells xs base n new h) (base + k) 0 ≡ new k
-  unfolding fourCells
-  four-is l room corner =
-      getD-set-other three (base + (3 * n + h)) (base + 3 * h) (new (3 * n + h)) 0 (λ e. omega arith)
-      ∙ getD-set-other two (base + 3 * h + 2) (base + 3 * h) (new (3 * h + 2)) 0 (λ e. omega arith)
-      ∙ getD-set-other one (base + 3 * h + 1) (base + 3 * h) (new (3 * h + 1)) 0 (λ e. omega arith)
-      ∙ getD-set-same xs (base + 3 * h) (new (3 * h)) 0 (omega arith)
-  four-is l room across =
-      let e : base + (3 * h + 1) ≡ base + 3 * h + 1 = omega arith in
-      rw e
-      (getD-set-other three (base + (3 * n + h)) (base + 3 * h + 1) (new (3 * n + h)) 0 (λ e. omega arith)
-      ∙ getD-set-other two (base + 3 * h + 2) (base + 3 * h + 1) (new (3 * h + 2)) 0 (λ e. omega arith)
-      ∙ getD-set-same one (base + 3 * h + 1) (new (3 * h + 1)) 0 (simp length-set (omega arith)))
-  four-is l room back =
-      let e : base + (3 * h + 2) ≡ base + 3 * h + 2 = omega arith in
-      rw e
-      (getD-set-other three (base + (3 * n + h)) (base + 3 * h + 2) (new (3 * n + h)) 0 (λ e. omega arith)
-      ∙ getD-set-same two (base + 3 * h + 2) (new (3 * h + 2)) 0 (simp length-set (omega arith)))
-  four-is l room middle = getD-set-same three (base + (3 * n + h)) (new (3 * n + h)) 0 (simp length-set (omega arith))
+      by : Dec (i < m) → Dec (i ≡ m) → Dec (i ≡ m + 1) → cell (setThree ys k a b c) (s + i) ≡ f i
+      by (yes o) z w = three-other ys k a b c (s + i) (λ d. omega arith) (λ d. omega arith) (λ d. omega arith) ∙ run i o
+      by (no o) (yes z) w = new z (rw (← e) (three-first ys k a b c room)) p
+      by (no o) (no z) (yes w) =
+          let d : s + (m + 1) ≡ k + 1 = omega arith in
+          new w (rw d (three-second ys k a b c room)) q
+      by (no o) (no z) (no w) =
+          let d : s + (m + 2) ≡ k + 2 = omega arith in
+          new (let t : i ≡ m + 2 = omega (arith, o, z, w) in t) (rw d (three-third ys k a b c room)) r
 
-  -- another halfedge's cell stays
-  four-kept : (g : ℕ) {k : ℕ} → g < h → h < n → Child n g k → getD (fourCells xs base n new h) (base + k) 0 ≡ getD xs (base + k) 0
-  four-kept g m l corner = four-other (base + 3 * g) (omega arith) (omega arith) (omega arith) (omega arith)
-  four-kept g m l across = four-other (base + (3 * g + 1)) (omega arith) (omega arith) (omega arith) (omega arith)
-  four-kept g m l back = four-other (base + (3 * g + 2)) (omega arith) (omega arith) (omega arith) (omega arith)
-  four-kept g m l middle = four-other (base + (3 * n + g)) (omega arith) (omega arith) (omega arith) (omega arith)
+-- the four rows by the new cells
+abbrev pub rowsBy : (ℕ → ℕ) → ℕ → ℕ → Rows
+rowsBy new n h =
+    record { corner = trio (λ k. new (3 * k)) h; across = trio (λ k. new (3 * k + 1)) h; back = trio (λ k. new (3 * k + 2)) h; middle = trio (λ k. new (3 * n + k)) h }
 
--- all halfedges below h
-unfoldable pub fillTo : List ℕ → ℕ → ℕ → (ℕ → ℕ) → ℕ → List ℕ
-fillTo xs base n new zero = xs
-fillTo xs base n new (suc h) = fourCells (fillTo xs base n new h) base n new h
+-- in ys the new cells of all halfedges below h are filled in, from base on; past the next level and before it stands what xs has
+pub record Going (xs : List ℕ) (base n : ℕ) (new : ℕ → ℕ) (ys : List ℕ) (h : ℕ) : Type 0 where
+  pub long : length ys ≡ length xs
+  pub before : Run ys 0 base (λ k. cell xs (0 + k))
+  pub together : Run ys base (3 * h) new
+  pub apart : Run ys (base + 3 * n) h (λ k. new (3 * n + k))
+  pub past : (m : ℕ) → Run ys (base + 4 * n) m (λ k. cell xs (base + 4 * n + k))
 
-module _ (xs : List ℕ) (base n : ℕ) (new : ℕ → ℕ) where
-  pub length-fill : (h : ℕ) → length (fillTo xs base n new h) ≡ length xs
-  unfolding fillTo
-  length-fill zero = refl
-  length-fill (suc h) = length-four (fillTo xs base n new h) base n new h ∙ length-fill h
+module _ (xs : List ℕ) (base n : ℕ) (new : ℕ → ℕ) (room : base + 4 * n ≤ length xs) where
+  pub going-start : Going xs base n new xs 0
+  unfolding Run
+  going-start =
+      record { long = refl; before = λ i l. refl; together = λ i l. absurd (omega (arith, l)); apart = λ i l. absurd (omega (arith, l)); past = λ m i l. refl }
 
-  pub front-fill : (h : ℕ) → take base (fillTo xs base n new h) ≡ take base xs
-  unfolding fillTo
-  front-fill zero = refl
-  front-fill (suc h) = front-four (fillTo xs base n new h) base n new h ∙ front-fill h
+  module _ {ys : List ℕ} {h : ℕ} (g : Going xs base n new ys h) where
+    -- after the first three stores of a triangle, the second, the third and the last
+    abbrev one : List ℕ
+    one = setThree ys (base + 3 * h) (new (3 * h)) (new (3 * h + 1)) (new (3 * h + 2))
 
-  back-fill : (h : ℕ) → h ≤ n → drop (base + 4 * n) (fillTo xs base n new h) ≡ drop (base + 4 * n) xs
-  unfolding fillTo
-  back-fill zero l = refl
-  back-fill (suc h) l = back-four (fillTo xs base n new h) base n new h l ∙ back-fill h (omega arith)
+    abbrev two : List ℕ
+    two = setThree one (base + 3 * h + 3) (new (3 * (h + 1))) (new (3 * (h + 1) + 1)) (new (3 * (h + 1) + 2))
 
-  module _ (room : base + 4 * n ≤ length xs) where
-    room-fill : (h : ℕ) → base + 4 * n ≤ length (fillTo xs base n new h)
-    room-fill h = rw (length-fill h) room
+    abbrev three : List ℕ
+    three = setThree two (base + 3 * h + 6) (new (3 * (h + 2))) (new (3 * (h + 2) + 1)) (new (3 * (h + 2) + 2))
 
-    -- a filled cell stays
-    filled : (h g : ℕ) {k : ℕ} → h ≤ n → g < h → Child n g k → getD (fillTo xs base n new h) (base + k) 0 ≡ new k
-    unfolding fillTo
-    filled zero g l m c = absurd (not-suc-le-zero m)
-    filled (suc h) g {k} l m c = by (ℕ-discrete g h) c (λ q. filled h g (omega arith) q c)
+    abbrev all : List ℕ
+    all = setThree three (base + (3 * n + h)) (new (3 * n + h)) (new (3 * n + (h + 1))) (new (3 * n + (h + 2)))
+
+    -- how long each is
+    long-one : length one ≡ length xs
+    long-one = length-three ys _ _ _ _ ∙ g .long
+
+    long-two : length two ≡ length xs
+    long-two = length-three one _ _ _ _ ∙ long-one
+
+    long-three : length three ≡ length xs
+    long-three = length-three two _ _ _ _ ∙ long-two
+
+    module _ (l : h + 3 ≤ n) where
+      before-all : (s m : ℕ) (f : ℕ → ℕ) → s + m ≤ base → Run ys s m f → Run all s m f
+      before-all s m f o r =
+          run-before three s m f
+          (run-before two s m f
+          (run-before one s m f (run-before ys s m f r (base + 3 * h) _ _ _ (omega arith)) (base + 3 * h + 3) _ _ _ (omega arith))
+          (base + 3 * h + 6) _ _ _ (omega arith))
+          (base + (3 * n + h)) _ _ _ (omega arith)
+
+      after-three : (s m : ℕ) (f : ℕ → ℕ) → base + 3 * n ≤ s → Run ys s m f → Run three s m f
+      after-three s m f o r =
+          run-after two s m f
+          (run-after one s m f (run-after ys s m f r (base + 3 * h) _ _ _ (omega arith)) (base + 3 * h + 3) _ _ _ (omega arith))
+          (base + 3 * h + 6) _ _ _ (omega arith)
+
+      together-one : Run one base (3 * h + 3) new
+      together-one = run-more ys base (3 * h) new (g .together) (base + 3 * h) _ _ _ refl (omega (arith, g .long)) refl refl refl
+
+      together-two : Run two base (3 * h + 3 + 3) new
+      together-two =
+          run-more one base (3 * h + 3) new together-one (base + 3 * h + 3) _ _ _ (omega arith) (omega (arith, long-one))
+          (ap new (omega arith)) (ap new (omega arith)) (ap new (omega arith))
+
+      together-three : Run three base (3 * h + 3 + 3 + 3) new
+      together-three =
+          run-more two base (3 * h + 3 + 3) new together-two (base + 3 * h + 6) _ _ _ (omega arith) (omega (arith, long-two))
+          (ap new (omega arith)) (ap new (omega arith)) (ap new (omega arith))
+
+      together-all : Run all base (3 * (h + 3)) new
+      together-all =
+          let e : 3 * (h + 3) ≡ 3 * h + 3 + 3 + 3 = omega arith in
+          rw e (run-before three base (3 * h + 3 + 3 + 3) new together-three (base + (3 * n + h)) _ _ _ (omega arith))
+
+      apart-all : Run all (base + 3 * n) (h + 3) (λ k. new (3 * n + k))
+      apart-all =
+          run-more three (base + 3 * n) h (λ k. new (3 * n + k)) (after-three (base + 3 * n) h _ (omega arith) (g .apart))
+          (base + (3 * n + h)) _ _ _ (omega arith) (omega (arith, long-three)) refl refl refl
+
+      past-all : (m : ℕ) → Run all (base + 4 * n) m (λ k. cell xs (base + 4 * n + k))
+      past-all m = run-after three (base + 4 * n) m _ (after-three (base + 4 * n) m _ (omega arith) (g .past m)) (base + (3 * n + h)) _ _ _ (omega arith)
+
+      pub going-on : {zs : List ℕ} → zs ≡ setRows ys base n h (rowsBy new n h) → Going xs base n new zs (h + 3)
+      unfolding setRows
+      going-on e =
+          rw e
+          (record {
+            long = length-three three _ _ _ _ ∙ long-three;
+            before = before-all 0 base _ (omega arith) (g .before);
+            together = together-all;
+            apart = apart-all;
+            past = past-all;
+          })
+
+    -- a cell before the next level
+    pub going-before : (k : ℕ) → k < base → cell ys k ≡ cell xs k
+    unfolding Run
+    going-before k l = rw zero-add at (g .before k l)
+
+    pub going-done : h ≡ n → ys ≡ take base xs ++ (tabulate (4 * n) new ++ drop (base + 4 * n) xs)
+    unfolding Run
+    going-done e =
+        splice-ext 0 xs ys (tabulate (4 * n) new) base (g .long) (rw (length-tabulate (4 * n) new) room)
+        going-before
+        (λ k l. inside k (rw (length-tabulate (4 * n) new) at l) ∙ sym (getD-tabulate (4 * n) new k 0 (rw (length-tabulate (4 * n) new) at l)))
+        (λ k l. past-it k (rw (length-tabulate (4 * n) new) at l))
+        ∙ rw (length-tabulate (4 * n) new)
       where
-        by : Dec (g ≡ h) → Child n g k → (g < h → getD (fillTo xs base n new h) (base + k) 0 ≡ new k) → getD (fourCells (fillTo xs base n new h) base n new h) (base + k) 0 ≡ new k
-        by (yes q) c ih = four-is (fillTo xs base n new h) base n new h l (room-fill h) (rw q at c)
-        by (no q) c ih = let r : g < h = omega (arith, q) in four-kept (fillTo xs base n new h) base n new h g r l c ∙ ih r
+        inside : (k : ℕ) → k < 4 * n → cell ys (base + k) ≡ new k
+        inside k l = by (decLt k (3 * n))
+          where
+            by : Dec (k < 3 * n) → cell ys (base + k) ≡ new k
+            by (yes m) = g .together k (omega arith)
+            by (no m) =
+                let d : base + k ≡ base + 3 * n + (k - 3 * n) = omega (arith, m) in
+                let f : 3 * n + (k - 3 * n) ≡ k = omega (arith, m) in
+                rw d (g .apart (k - 3 * n) (omega (arith, m))) ∙ ap new f
 
-    all-new : part (fillTo xs base n new n) base (4 * n) ≡ tabulate (4 * n) new
-    all-new = ext-getD 0 _ _ (long ∙ sym (length-tabulate (4 * n) new)) (λ k l. cell-of k (rw long at l))
-      where
-        long : length (part (fillTo xs base n new n) base (4 * n)) ≡ 4 * n
-        long = length-part (fillTo xs base n new n) base (4 * n) (room-fill n)
-
-        cell-of : (k : ℕ) → k < 4 * n → getD (part (fillTo xs base n new n) base (4 * n)) k 0 ≡ getD (tabulate (4 * n) new) k 0
-        cell-of k l =
-            let c = child-of n k l in
-            part-at (fillTo xs base n new n) base (4 * n) k 0 l
-            ∙ filled n (c .0) (le-refl n) (c .1) (c .2)
-            ∙ sym (getD-tabulate (4 * n) new k 0 l)
-
-    pub fill-all : fillTo xs base n new n ≡ take base xs ++ (tabulate (4 * n) new ++ drop (base + 4 * n) xs)
-    fill-all =
-        in-three (fillTo xs base n new n) base (4 * n)
-        ∙ rw (front-fill n, all-new, back-fill n (le-refl n))
+        past-it : (k : ℕ) → base + 4 * n ≤ k → cell ys k ≡ cell xs k
+        past-it k l =
+            let d : base + 4 * n + (k - (base + 4 * n)) ≡ k = omega arith in
+            rw d at (g .past (k + 1) (k - (base + 4 * n)) (omega arith))

@@ -1,8 +1,7 @@
 pub mod Meaning
 pub mod Rows
-pub mod Children
 pub mod Fill
-pub mod Written
+pub mod Triangles
 pub mod Soundness
 pub mod Stages
 pub mod Carriers

@@ -11,7 +11,7 @@ use lib.Seq.{length-take-le}
 use Rattle.halfedges.specs.declared.table.HalfedgeTable.{HalfedgeTable}
 use Rattle.laws.specs.Below.{endToEnd, sum}
 use Rattle.laws.specs.Parts.{part, inFront}
-use Rattle.laws.proofs.Parts.{length-inFront}
+use Rattle.laws.proofs.Parts.{length-inFront, part-at}
 use Rattle.laws.proofs.Sums.{sum-same, sum-grows}
 use Rattle.laws.proofs.EndToEnd.{length-endToEnd, last-part, one-more}
 use Rattle.halfedges.specs.Cage.{most-halfedges}
@@ -20,9 +20,8 @@ use Rattle.halfedges.proofs.Growth.{levels-at-most}
 use Rattle.connectivity.specs.Tables.{Tables, tables}
 use Rattle.connectivity.specs.NextLevel.{next, level}
 use Rattle.connectivity.specs.Operations.{levelsEndToEnd}
-use Rattle.connectivity.specs.InPlace.{levelAt, tablesInFront, childrenTo, Sound, Standing, Refinable}
+use Rattle.connectivity.specs.InPlace.{levelAt, tablesInFront, withNext, withNextLevel, Sound, Housed, Standing, Refinable}
 use Rattle.connectivity.proofs.Soundness.{sound-at}
-use Rattle.connectivity.proofs.Written.{next-written}
 
 -- levels 0 to d, and past them what the tables held
 unfoldable pub stage : HalfedgeTable → Tables → ℕ → Tables
@@ -53,7 +52,7 @@ module _ (t : HalfedgeTable) (depth : ℕ) (x : Tables) (r : Refinable t depth x
     last : (xs : List ℕ) (d : ℕ) → part (inFront (endToEnd (suc d) f) xs) (sum d (Hs t)) (Hs t d) ≡ f d
     last xs d = rw (← front-long d, ← long d) (last-part f xs d)
 
-    more : (xs : List ℕ) (d : ℕ) → take (sum d (Hs t) + Hs t d) (inFront (endToEnd (suc d) f) xs) ++ (f (suc d) ++ drop (sum d (Hs t) + 5 * Hs t d) (inFront (endToEnd (suc d) f) xs)) ≡ inFront (endToEnd (suc (suc d)) f) xs
+    more : (xs : List ℕ) (d : ℕ) → withNext (inFront (endToEnd (suc d) f) xs) (sum d (Hs t)) (Hs t d) (f (suc d)) ≡ inFront (endToEnd (suc (suc d)) f) xs
     unfolding countsAt
     more xs d =
         let e : sum d (Hs t) + 5 * Hs t d ≡ sum d (Hs t) + Hs t d + length (f (suc d)) = omega (arith, long (suc d)) in
@@ -96,31 +95,40 @@ module _ (t : HalfedgeTable) (depth : ℕ) (x : Tables) (r : Refinable t depth x
     unfolding stage tablesInFront levelsEndToEnd twins verts edges
     level-there = λ i. tables (last twins twins-long (x .twin) d i) (last verts verts-long (x .vert) d i) (last edges edges-long (x .edge) d i)
 
-    stage-stands : d < depth → Standing (countsAt t d) (sum d (Hs t)) (stage t x d)
-    unfolding stage tablesInFront levelsEndToEnd twins verts edges
-    stage-stands l =
-        let a = levels-at-most most-halfedges 5 t (r .small) d (omega (arith, r .shallow)) in
-        record {
-          sound = rw level-there (sound d);
-          small = record { halfedges = omega arith; edges = omega arith; vertices = omega arith };
-          twin-room = fits twins twins-long (x .twin) d l (r .twin-room);
-          vert-room = fits verts verts-long (x .vert) d l (r .vert-room);
-          edge-room = fits edges edges-long (x .edge) d l (r .edge-room);
-        }
+    module _ (l : d < depth) where
+      small-there : AtMost 4194304 (countsAt t d)
+      small-there =
+          let a = levels-at-most most-halfedges 5 t (r .small) d (omega (arith, r .shallow)) in
+          record { halfedges = omega arith; edges = omega arith; vertices = omega arith }
+
+      housed : {xs : List ℕ} → sum d (Hs t) + 5 * Hs t d ≤ length xs → Housed (countsAt t d) (sum d (Hs t)) xs
+      housed room = record { small = small-there; whole = sound d .whole; room = room }
+
+      stage-stands : Standing (countsAt t d) (sum d (Hs t)) (stage t x d)
+      unfolding stage tablesInFront levelsEndToEnd twins verts edges
+      stage-stands =
+          let s : Sound (countsAt t d) (levelAt (countsAt t d) (sum d (Hs t)) (stage t x d)) = rw level-there (sound d) in
+          record {
+            twin = housed (fits twins twins-long (x .twin) d l (r .twin-room));
+            vert = housed (fits verts verts-long (x .vert) d l (r .vert-room));
+            edge = housed (fits edges edges-long (x .edge) d l (r .edge-room));
+            twins = λ h m. rw (← part-at (stage t x d .twin) (sum d (Hs t)) (Hs t d) h 0 m) (λ k. omega (arith, small-there .halfedges, s .twin-below h m k));
+            edges = λ h m. rw (← part-at (stage t x d .edge) (sum d (Hs t)) (Hs t d) h 0 m) (omega (arith, small-there .edges, s .edge-below h m));
+          }
 
     -- the stage with a level's next one after it
     abbrev with-next : Tables → Tables
     with-next l =
+        let c = next (countsAt t d) l in
         tables
-        (take (sum d (Hs t) + Hs t d) (stage t x d .twin) ++ (next (countsAt t d) l .twin ++ drop (sum d (Hs t) + 5 * Hs t d) (stage t x d .twin)))
-        (take (sum d (Hs t) + Hs t d) (stage t x d .vert) ++ (next (countsAt t d) l .vert ++ drop (sum d (Hs t) + 5 * Hs t d) (stage t x d .vert)))
-        (take (sum d (Hs t) + Hs t d) (stage t x d .edge) ++ (next (countsAt t d) l .edge ++ drop (sum d (Hs t) + 5 * Hs t d) (stage t x d .edge)))
+        (withNext (stage t x d .twin) (sum d (Hs t)) (Hs t d) (c .twin))
+        (withNext (stage t x d .vert) (sum d (Hs t)) (Hs t d) (c .vert))
+        (withNext (stage t x d .edge) (sum d (Hs t)) (Hs t d) (c .edge))
 
-    stage-more : d < depth → childrenTo (countsAt t d) (sum d (Hs t)) (stage t x d) (Hs t d) ≡ stage t x (suc d)
-    unfolding stage tablesInFront levelsEndToEnd twins verts edges level
-    stage-more l =
-        next-written (countsAt t d) (sum d (Hs t)) (stage t x d) (stage-stands l)
-        ∙ ap with-next level-there
+    stage-more : withNextLevel (countsAt t d) (sum d (Hs t)) (stage t x d) ≡ stage t x (suc d)
+    unfolding withNextLevel stage tablesInFront levelsEndToEnd twins verts edges level
+    stage-more =
+        ap with-next level-there
         ∙ λ i. tables (more twins twins-long (x .twin) d i) (more verts verts-long (x .vert) d i) (more edges edges-long (x .edge) d i)
 
   stage-start : x ≡ stage t x 0
@@ -142,12 +150,12 @@ module _ (t : HalfedgeTable) (depth : ℕ) (x : Tables) (r : Refinable t depth x
     pub reached-stands : d < depth → Standing u at y
     reached-stands l = rw (e .counts, e .offset, e .so-far) (stage-stands d l)
 
-    pub reached-on : {z : Tables} {w : HalfedgeTable} → d < depth → z ≡ childrenTo u at y (u .halfedges) → w ≡ finer u → Reached t depth x z w (at + u .halfedges) (d + 1)
+    pub reached-on : {z : Tables} {w : HalfedgeTable} → d < depth → z ≡ withNextLevel u at y → w ≡ finer u → Reached t depth x z w (at + u .halfedges) (d + 1)
     unfolding countsAt
     reached-on l f g =
         rw (add-one d)
         (record {
-          so-far = f ∙ rw (e .counts, e .offset, e .so-far) (stage-more d l);
+          so-far = f ∙ rw (e .counts, e .offset, e .so-far) (stage-more d);
           counts = g ∙ ap finer (e .counts);
           offset = rw (e .counts, e .offset);
           within = l;

@@ -1,43 +1,92 @@
 -- How the code writes a level: straight after the one before it, in the same tables.
-use Prim.Native.Nat.{ℕ, zero, suc, _+_, _*_, _%_, _≤_, _<_}
+use Prim.Native.Nat.{ℕ, _+_, _*_, _%_, _≤_, _<_}
 use mathlib.Core.Path.{_≡_}
 use mathlib.Core.Logic.{_≢_}
-use mathlib.Core.List.{List}
-use lib.ListN.{length, set}
+use mathlib.Core.Bool.{Bool, cond, _||_}
+use mathlib.Core.List.{List, [], _∷_, _++_}
+use lib.Dec.{eqb, ltb}
+use lib.ListN.{length, take, drop, set}
 use Rattle.halfedges.specs.declared.table.HalfedgeTable.{HalfedgeTable}
+use Rattle.connectivity.specs.declared.level.Rows.{Rows}
 use Rattle.laws.specs.Parts.{part, inFront}
-use Rattle.halfedges.specs.Cage.{marker, most-halfedges, most-depth, cell}
+use Rattle.halfedges.specs.Cage.{NEXT, marker, most-halfedges, most-depth, cell}
 use Rattle.halfedges.specs.Counts.{AtMost, roomH}
 use Rattle.connectivity.specs.Tables.{Tables, tables}
-use Rattle.connectivity.specs.NextLevel.{newTwin, newEdge, newVert}
+use Rattle.connectivity.specs.NextLevel.{next}
 
 -- the level of t's size from an offset on
 abbrev pub levelAt : HalfedgeTable → ℕ → Tables → Tables
 levelAt t at x = tables (part (x .twin) at (t .halfedges)) (part (x .vert) at (t .halfedges)) (part (x .edge) at (t .halfedges))
 
--- three cells together and one apart
-abbrev pub setFour : List ℕ → ℕ → ℕ → ℕ → ℕ → ℕ → ℕ → List ℕ
-setFour xs corner middle a b c d = set (set (set (set xs corner a) (corner + 1) b) (corner + 2) c) middle d
-
--- the new cells of halfedge h, in the four rows of a level of n halfedges whose next level starts at base
-unfoldable pub fourCells : List ℕ → ℕ → ℕ → (ℕ → ℕ) → ℕ → List ℕ
-fourCells xs base n new h =
-    setFour xs (base + 3 * h) (base + (3 * n + h)) (new (3 * h)) (new (3 * h + 1)) (new (3 * h + 2)) (new (3 * n + h))
+-- a table with the next level's cells after those of a level of n halfedges
+abbrev pub withNext : List ℕ → ℕ → ℕ → List ℕ → List ℕ
+withNext xs at n cells = take (at + n) xs ++ (cells ++ drop (at + 5 * n) xs)
 
 -- the same in the three tables
-unfoldable pub children : HalfedgeTable → ℕ → Tables → ℕ → Tables
-children t at x h =
-    let c = levelAt t at x in
-    let base = at + t .halfedges in
-    tables
-    (fourCells (x .twin) base (t .halfedges) (newTwin (c .twin)) h)
-    (fourCells (x .vert) base (t .halfedges) (newVert (c .vert) (c .edge) (t .vertices)) h)
-    (fourCells (x .edge) base (t .halfedges) (newEdge (c .twin) (c .edge) (t .edges)) h)
+unfoldable pub withNextLevel : HalfedgeTable → ℕ → Tables → Tables
+withNextLevel t at x =
+    let c = next t (levelAt t at x) in
+    tables (withNext (x .twin) at (t .halfedges) (c .twin)) (withNext (x .vert) at (t .halfedges) (c .vert)) (withNext (x .edge) at (t .halfedges) (c .edge))
 
--- of all halfedges below h
-unfoldable pub childrenTo : HalfedgeTable → ℕ → Tables → ℕ → Tables
-childrenTo t at x zero = x
-childrenTo t at x (suc h) = children t at (childrenTo t at x h) h
+-- what a triangle's halfedges h, h+1 and h+2 have
+abbrev pub trio : (ℕ → ℕ) → ℕ → List ℕ
+trio f h = f h ∷ f (h + 1) ∷ f (h + 2) ∷ []
+
+-- what the halfedges before them have, from what they have themselves
+abbrev pub turned : (ℕ → ℕ) → List ℕ
+turned f = f 2 ∷ f 0 ∷ f 1 ∷ []
+
+-- "3·NEXT(t)+2" and "3·t'", where there is a twin
+abbrev pub outerTwin : ℕ → ℕ
+outerTwin t = cond (eqb t marker) marker (3 * NEXT t + 2)
+
+abbrev pub innerTwin : ℕ → ℕ
+innerTwin t = cond (eqb t marker) marker (3 * t)
+
+-- "h > t", where "a missing twin counts as lower than every halfedge"
+abbrev pub isAbove : ℕ → ℕ → Bool
+isAbove t h = eqb t marker || ltb t h
+
+-- the four rows of TWIN, of VERT and of EDGE, from the cells of the triangle whose first halfedge is h
+unfoldable pub twinRows : List ℕ → ℕ → ℕ → Rows
+twinRows twins n h =
+    record {
+      corner = trio (λ i. outerTwin (cell twins i)) 0;
+      across = trio (λ k. 3 * n + k) h;
+      back = turned (λ i. innerTwin (cell twins i));
+      middle = trio (λ k. 3 * k + 1) h;
+    }
+
+unfoldable pub vertRows : List ℕ → List ℕ → ℕ → Rows
+vertRows verts edges v =
+    record {
+      corner = verts;
+      across = trio (λ i. v + cell edges i) 0;
+      back = turned (λ i. v + cell edges i);
+      middle = turned (λ i. v + cell edges i);
+    }
+
+unfoldable pub edgeRows : List ℕ → List ℕ → ℕ → ℕ → Rows
+edgeRows edges twins e h =
+    let half : ℕ → ℕ → ℕ → ℕ → ℕ = λ i k a b. 2 * cell edges i + cond (isAbove (cell twins i) k) a b in
+    record {
+      corner = half 0 h 0 1 ∷ half 1 (h + 1) 0 1 ∷ half 2 (h + 2) 0 1 ∷ [];
+      across = trio (λ k. 2 * e + k) h;
+      back = half 2 (h + 2) 1 0 ∷ half 0 h 1 0 ∷ half 1 (h + 1) 1 0 ∷ [];
+      middle = trio (λ k. 2 * e + k) h;
+    }
+
+-- three cells together
+abbrev pub setThree : List ℕ → ℕ → ℕ → ℕ → ℕ → List ℕ
+setThree xs k a b c = set (set (set xs k a) (k + 1) b) (k + 2) c
+
+-- a triangle's rows in the next level of one of n halfedges, which starts at base
+unfoldable pub setRows : List ℕ → ℕ → ℕ → ℕ → Rows → List ℕ
+setRows xs base n h r =
+    let a = setThree xs (base + 3 * h) (cell (r .corner) 0) (cell (r .across) 0) (cell (r .back) 0) in
+    let b = setThree a (base + 3 * h + 3) (cell (r .corner) 1) (cell (r .across) 1) (cell (r .back) 1) in
+    let c = setThree b (base + 3 * h + 6) (cell (r .corner) 2) (cell (r .across) 2) (cell (r .back) 2) in
+    setThree c (base + (3 * n + h)) (cell (r .middle) 0) (cell (r .middle) 1) (cell (r .middle) 2)
 
 -- cells of the three tables in front of what those held
 unfoldable pub tablesInFront : Tables → Tables → Tables
@@ -53,13 +102,29 @@ pub record Sound (t : HalfedgeTable) (c : Tables) : Type 0 where
   pub twin-below : (h : ℕ) → h < t .halfedges → cell (c .twin) h ≢ marker → cell (c .twin) h < t .halfedges
   pub edge-below : (h : ℕ) → h < t .halfedges → cell (c .edge) h < t .edges
 
--- it stands in the tables, with room for the next one
-pub record Standing (t : HalfedgeTable) (at : ℕ) (x : Tables) : Type 0 where
-  pub sound : Sound t (levelAt t at x)
+-- a table has room for a small level at an offset, and for the next one
+pub record Housed (t : HalfedgeTable) (at : ℕ) (xs : List ℕ) : Type 0 where
   pub small : AtMost 4194304 t
-  pub twin-room : at + 5 * t .halfedges ≤ length (x .twin)
-  pub vert-room : at + 5 * t .halfedges ≤ length (x .vert)
-  pub edge-room : at + 5 * t .halfedges ≤ length (x .edge)
+  pub whole : t .halfedges % 3 ≡ 0
+  pub room : at + 5 * t .halfedges ≤ length xs
+
+-- a twin, all twins of a level and all its edges are small
+abbrev pub SmallTwin : ℕ → Type 0
+SmallTwin t = t ≢ marker → t < 4194304
+
+abbrev pub SmallTwins : HalfedgeTable → ℕ → List ℕ → Type 0
+SmallTwins t at twin = (h : ℕ) → h < t .halfedges → SmallTwin (cell twin (at + h))
+
+abbrev pub SmallEdges : HalfedgeTable → ℕ → List ℕ → Type 0
+SmallEdges t at edge = (h : ℕ) → h < t .halfedges → cell edge (at + h) < 4194304
+
+-- a level stands in the tables, with room for the next one
+pub record Standing (t : HalfedgeTable) (at : ℕ) (x : Tables) : Type 0 where
+  pub twin : Housed t at (x .twin)
+  pub vert : Housed t at (x .vert)
+  pub edge : Housed t at (x .edge)
+  pub twins : SmallTwins t at (x .twin)
+  pub edges : SmallEdges t at (x .edge)
 
 -- a cage stands in front of the tables, with room for levels 0 to the depth
 pub record Refinable (t : HalfedgeTable) (depth : ℕ) (x : Tables) : Type 0 where

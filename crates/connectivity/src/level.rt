@@ -1,13 +1,14 @@
 // One level to the next, written straight after it in the same tables.
 ghost use mathlib.Core.Path.{_≡_};
-ghost use mathlib.Core.Logic.{_≢_};
-ghost use mathlib.Core.Bool.{cond, _||_};
+ghost use mathlib.Core.Bool.{cond};
+ghost use mathlib.Core.List.{[], _∷_};
 ghost use Prim.Native.Nat.{_+_, _*_, _<_, _≤_};
-ghost use lib.Dec.{eqb, ltb};
 ghost use lib.ListN.{length};
-ghost use Rattle.halfedges.specs.Cage.{NEXT, PREV, marker};
+ghost use Rattle.laws.specs.Parts.{part};
+ghost use Rattle.halfedges.specs.Cage.{cell};
 ghost use Rattle.connectivity.specs.Tables.{tables};
-ghost use Rattle.connectivity.specs.InPlace.{setFour, Standing, children as InPlace·children, childrenTo};
+ghost use Rattle.connectivity.specs.NextLevel.{nextTwins, nextVerts, nextEdges};
+ghost use Rattle.connectivity.specs.InPlace.{trio, setThree, setRows, twinRows, vertRows, edgeRows, outerTwin, innerTwin, isAbove, SmallTwin, SmallTwins, SmallEdges, Housed, Standing, withNext, withNextLevel};
 use halfedges::table::HalfedgeTable;
 
 // A number of a table as an index.
@@ -19,7 +20,7 @@ pub fn wide(number: u32) -> usize
 
 // h > t, where a missing twin t counts as lower than every halfedge.
 pub fn is_above(twin: u32, halfedge: usize) -> bool
-    ensures { λ r. ⌜ r ≡ (eqb twin marker || ltb twin halfedge) ⌝ }
+    ensures { λ r. ⌜ r ≡ isAbove twin halfedge ⌝ }
 {
     if twin == HalfedgeTable::NO_TWIN {
         return true;
@@ -29,8 +30,8 @@ pub fn is_above(twin: u32, halfedge: usize) -> bool
 
 // The twin of 3h, where t is h's: 3·NEXT(t)+2.
 fn outer_twin(twin: u32) -> u32
-    requires { ⌜ (twin ≢ marker → twin < 4194304) ⌝ }
-    ensures { λ r. ⌜ r ≡ cond (eqb twin marker) marker (3 * NEXT twin + 2) ⌝ }
+    requires { ⌜ SmallTwin twin ⌝ }
+    ensures { λ r. ⌜ r ≡ outerTwin twin ⌝ }
 {
     if twin == HalfedgeTable::NO_TWIN {
         return HalfedgeTable::NO_TWIN;
@@ -40,8 +41,8 @@ fn outer_twin(twin: u32) -> u32
 
 // The twin of 3h+2, where t' is that of the halfedge before h: 3·t'.
 fn inner_twin(twin_previous: u32) -> u32
-    requires { ⌜ («twin_previous» ≢ marker → «twin_previous» < 4194304) ⌝ }
-    ensures { λ r. ⌜ r ≡ cond (eqb «twin_previous» marker) marker (3 * «twin_previous») ⌝ }
+    requires { ⌜ SmallTwin «twin_previous» ⌝ }
+    ensures { λ r. ⌜ r ≡ innerTwin «twin_previous» ⌝ }
 {
     if twin_previous == HalfedgeTable::NO_TWIN {
         return HalfedgeTable::NO_TWIN;
@@ -61,62 +62,198 @@ fn half(edge: u32, above: bool, if_above: u32, if_not: u32) -> u32
     }
 }
 
-// Three cells together and one apart: a halfedge's in the four rows.
-fn put(table: &mut [u32], corner: usize, middle: usize, a: u32, b: u32, c: u32, d: u32)
-    requires { ⌜ (corner + 3 ≤ length (now table)) × (middle < length (now table)) ⌝ }
-    ensures { λ _. ⌜ now (table .exit) ≡ setFour (now (table .entry)) corner middle a b c d ⌝ }
+// The vertex on an edge: V+EDGE(h).
+fn on_edge(edge: u32, vertices: usize) -> u32
+    requires { ⌜ (edge < 4194304) × (vertices ≤ 4194304) ⌝ }
+    ensures { λ r. ⌜ r ≡ vertices + edge ⌝ }
 {
-    table[corner] = a;
-    table[corner + 1] = b;
-    table[corner + 2] = c;
-    table[middle] = d;
+    (vertices + wide(edge)) as u32
 }
 
-// The new cells of a halfedge whose triangle has previous before it, in the three tables.
-fn children(
-    twin: &mut [u32],
-    vert: &mut [u32],
-    edge: &mut [u32],
-    at: usize,
-    level: HalfedgeTable,
-    halfedge: usize,
-    previous: usize,
-)
-    requires { ⌜ Standing level at (tables (now twin) (now vert) (now edge)) ⌝ }
-    requires { ⌜ (halfedge < level .halfedges) × (previous < level .halfedges) × (previous ≡ PREV halfedge) ⌝ }
-    ensures { λ _. ⌜ tables (now (twin .exit)) (now (vert .exit)) (now (edge .exit)) ≡ InPlace·children level at (tables (now (twin .entry)) (now (vert .entry)) (now (edge .entry))) halfedge ⌝ }
+// Three numbers, each a step after the one before it.
+fn count_up(from: usize, step: usize) -> [u32; 3]
+    requires { ⌜ (from ≤ 16777216) × (step ≤ 3) ⌝ }
+    ensures { λ r. ⌜ r ≡ (from ∷ (from + step) ∷ (from + 2 * step) ∷ []) ⌝ }
+{
+    [from as u32, (from + step) as u32, (from + 2 * step) as u32]
+}
+
+// Three cells together: those of a triangle.
+fn three(table: &[u32], at: usize) -> [u32; 3]
+    requires { ⌜ at + 3 ≤ length (now table) ⌝ }
+    ensures { λ r. ⌜ r ≡ trio (cell (now (table .entry))) at ⌝ }
+{
+    [table[at], table[at + 1], table[at + 2]]
+}
+
+// A table's new cells of a triangle, by the four rows: 3h, 3h+1, 3h+2 and 3H+h, of its three halfedges each.
+struct Rows {
+    corner: [u32; 3],
+    across: [u32; 3],
+    back: [u32; 3],
+    middle: [u32; 3],
+}
+
+// TWIN, from the triangle's twins.
+fn twin_rows(twins: [u32; 3], halfedges: usize, first: usize) -> Rows
+    requires { ⌜ (SmallTwin (cell twins 0)) × (SmallTwin (cell twins 1)) × (SmallTwin (cell twins 2)) ⌝ }
+    requires { ⌜ (halfedges ≤ 4194304) × (first ≤ 4194304) ⌝ }
+    ensures { λ r. ⌜ r ≡ twinRows twins halfedges first ⌝ }
+{
+    Rows {
+        corner: [
+            outer_twin(twins[0]),
+            outer_twin(twins[1]),
+            outer_twin(twins[2]),
+        ],
+        across: count_up(3 * halfedges + first, 1),
+        back: [
+            inner_twin(twins[2]),
+            inner_twin(twins[0]),
+            inner_twin(twins[1]),
+        ],
+        middle: count_up(3 * first + 1, 3),
+    }
+}
+
+// VERT, from the triangle's corners and edges.
+fn vert_rows(verts: [u32; 3], edges: [u32; 3], vertices: usize) -> Rows
+    requires { ⌜ (cell edges 0 < 4194304) × (cell edges 1 < 4194304) × (cell edges 2 < 4194304) ⌝ }
+    requires { ⌜ vertices ≤ 4194304 ⌝ }
+    ensures { λ r. ⌜ r ≡ vertRows verts edges vertices ⌝ }
+{
+    let a = on_edge(edges[0], vertices);
+    let b = on_edge(edges[1], vertices);
+    let c = on_edge(edges[2], vertices);
+    Rows {
+        corner: verts,
+        across: [a, b, c],
+        back: [c, a, b],
+        middle: [c, a, b],
+    }
+}
+
+// EDGE, from the triangle's edges and twins.
+fn edge_rows(edges: [u32; 3], twins: [u32; 3], all_edges: usize, first: usize) -> Rows
+    requires { ⌜ (cell edges 0 < 4194304) × (cell edges 1 < 4194304) × (cell edges 2 < 4194304) ⌝ }
+    requires { ⌜ («all_edges» ≤ 4194304) × (first ≤ 4194304) ⌝ }
+    ensures { λ r. ⌜ r ≡ edgeRows edges twins «all_edges» first ⌝ }
+{
+    let a = is_above(twins[0], first);
+    let b = is_above(twins[1], first + 1);
+    let c = is_above(twins[2], first + 2);
+    let across = count_up(2 * all_edges + first, 1);
+    Rows {
+        corner: [
+            half(edges[0], a, 0, 1),
+            half(edges[1], b, 0, 1),
+            half(edges[2], c, 0, 1),
+        ],
+        across,
+        back: [
+            half(edges[2], c, 1, 0),
+            half(edges[0], a, 1, 0),
+            half(edges[1], b, 1, 0),
+        ],
+        middle: across,
+    }
+}
+
+// Stores three cells together.
+fn store(table: &mut [u32], at: usize, a: u32, b: u32, c: u32)
+    requires { ⌜ at + 3 ≤ length (now table) ⌝ }
+    ensures { λ _. ⌜ now (table .exit) ≡ setThree (now (table .entry)) at a b c ⌝ }
+{
+    table[at] = a;
+    table[at + 1] = b;
+    table[at + 2] = c;
+}
+
+// Stores a triangle's rows in the next level, which starts at base: nine cells together and three apart.
+fn put(table: &mut [u32], base: usize, halfedges: usize, first: usize, rows: Rows)
+    requires { ⌜ (base + 4 * halfedges ≤ length (now table)) × (first + 3 ≤ halfedges) ⌝ }
+    ensures { λ _. ⌜ now (table .exit) ≡ setRows (now (table .entry)) base halfedges first rows ⌝ }
+{
+    let corner = base + 3 * first;
+    store(table, corner, rows.corner[0], rows.across[0], rows.back[0]);
+    store(
+        table,
+        corner + 3,
+        rows.corner[1],
+        rows.across[1],
+        rows.back[1],
+    );
+    store(
+        table,
+        corner + 6,
+        rows.corner[2],
+        rows.across[2],
+        rows.back[2],
+    );
+    let middle = base + (3 * halfedges + first);
+    store(
+        table,
+        middle,
+        rows.middle[0],
+        rows.middle[1],
+        rows.middle[2],
+    );
+}
+
+// Writes the next level's TWIN after the level that stands at an offset.
+fn next_twins(twin: &mut [u32], at: usize, level: HalfedgeTable)
+    requires { ⌜ Housed level at (now twin) ⌝ }
+    requires { ⌜ SmallTwins level at (now twin) ⌝ }
+    ensures { λ _. ⌜ now (twin .exit) ≡ withNext (now (twin .entry)) at (level .halfedges) (nextTwins (part (now (twin .entry)) at (level .halfedges))) ⌝ }
+{
+    let halfedges = level.halfedges;
+    let mut first = 0;
+    while first < halfedges {
+        let rows = twin_rows(three(twin, at + first), halfedges, first);
+        put(twin, at + halfedges, halfedges, first, rows);
+        first += 3;
+    }
+}
+
+// The same of VERT, which takes the level's EDGE too.
+fn next_verts(vert: &mut [u32], edge: &[u32], at: usize, level: HalfedgeTable)
+    requires { ⌜ (Housed level at (now vert)) × (Housed level at (now edge)) ⌝ }
+    requires { ⌜ SmallEdges level at (now edge) ⌝ }
+    ensures { λ _. ⌜ now (vert .exit) ≡ withNext (now (vert .entry)) at (level .halfedges) (nextVerts (part (now (vert .entry)) at (level .halfedges)) (part (now (edge .entry)) at (level .halfedges)) (level .vertices)) ⌝ }
+{
+    let halfedges = level.halfedges;
+    let vertices = level.vertices;
+    let mut first = 0;
+    while first < halfedges {
+        let rows = vert_rows(three(vert, at + first), three(edge, at + first), vertices);
+        put(vert, at + halfedges, halfedges, first, rows);
+        first += 3;
+    }
+}
+
+// The same of EDGE, which takes the level's TWIN too.
+fn next_edges(edge: &mut [u32], twin: &[u32], at: usize, level: HalfedgeTable)
+    requires { ⌜ (Housed level at (now edge)) × (Housed level at (now twin)) ⌝ }
+    requires { ⌜ SmallEdges level at (now edge) ⌝ }
+    ensures { λ _. ⌜ now (edge .exit) ≡ withNext (now (edge .entry)) at (level .halfedges) (nextEdges (part (now (twin .entry)) at (level .halfedges)) (part (now (edge .entry)) at (level .halfedges)) (level .edges)) ⌝ }
 {
     let halfedges = level.halfedges;
     let edges = level.edges;
-    let vertices = level.vertices;
-    let t = twin[at + halfedge];
-    let t_previous = twin[at + previous];
-    let e = edge[at + halfedge];
-    let e_previous = edge[at + previous];
-    let v = vert[at + halfedge];
-    let corner = at + halfedges + 3 * halfedge;
-    let middle = at + halfedges + (3 * halfedges + halfedge);
-    let outer = outer_twin(t);
-    let inner = inner_twin(t_previous);
-    put(
-        twin,
-        corner,
-        middle,
-        outer,
-        (3 * halfedges + halfedge) as u32,
-        inner,
-        (3 * halfedge + 1) as u32,
-    );
-    let on = (vertices + wide(e)) as u32;
-    let on_previous = (vertices + wide(e_previous)) as u32;
-    put(vert, corner, middle, v, on, on_previous, on_previous);
-    let across = (2 * edges + halfedge) as u32;
-    let first = half(e, is_above(t, halfedge), 0, 1);
-    let second = half(e_previous, is_above(t_previous, previous), 1, 0);
-    put(edge, corner, middle, first, across, second, across);
+    let mut first = 0;
+    while first < halfedges {
+        let rows = edge_rows(
+            three(edge, at + first),
+            three(twin, at + first),
+            edges,
+            first,
+        );
+        put(edge, at + halfedges, halfedges, first, rows);
+        first += 3;
+    }
 }
 
-// Writes the next level of the level that stands at an offset straight after it.
+// Writes the next level of the level that stands at an offset straight after it, a table at a time: so few cells are
+// stored to at once that this takes three quarters of the time of all three together. A table goes before those it reads.
 pub fn next_level(
     twin: &mut [u32],
     vert: &mut [u32],
@@ -125,14 +262,9 @@ pub fn next_level(
     level: HalfedgeTable,
 )
     requires { ⌜ Standing level at (tables (now twin) (now vert) (now edge)) ⌝ }
-    ensures { λ _. ⌜ tables (now (twin .exit)) (now (vert .exit)) (now (edge .exit)) ≡ childrenTo level at (tables (now (twin .entry)) (now (vert .entry)) (now (edge .entry))) (level .halfedges) ⌝ }
+    ensures { λ _. ⌜ tables (now (twin .exit)) (now (vert .exit)) (now (edge .exit)) ≡ withNextLevel level at (tables (now (twin .entry)) (now (vert .entry)) (now (edge .entry))) ⌝ }
 {
-    let halfedges = level.halfedges;
-    let mut first = 0;
-    while first < halfedges {
-        children(twin, vert, edge, at, level, first, first + 2);
-        children(twin, vert, edge, at, level, first + 1, first);
-        children(twin, vert, edge, at, level, first + 2, first + 1);
-        first += 3;
-    }
+    next_verts(vert, edge, at, level);
+    next_edges(edge, twin, at, level);
+    next_twins(twin, at, level);
 }

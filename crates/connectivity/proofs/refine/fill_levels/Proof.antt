@@ -23,7 +23,7 @@ add-at : tie.Need-add-at Inv-loop μ-loop
 add-at c =
     let i = c .before .before .before .before .before .before .before .before .before .before .before in
     let s = i .before .before .before .before .before in
-    omega (arith, s .good .0 .0, reached-stands _ _ _ (s .pre) (i .before .loop .inv) (i .loop-test .taken) .twin-room, reached-long _ _ _ (s .pre) (i .before .loop .inv) .0)
+    omega (arith, s .good .0 .0, reached-stands _ _ _ (s .pre) (i .before .loop .inv) (i .loop-test .taken) .twin .room, reached-long _ _ _ (s .pre) (i .before .loop .inv) .0)
 
 finer-requires : tie.Need-finer-requires Inv-loop μ-loop
 finer-requires c κs =

@@ -1,0 +1,93 @@
+-- `next_edges` goes through the triangles, and the level that it reads stands untouched before what it writes.
+use Prim.Native.Nat.{ℕ, _+_, _-_, _≤_, _<_}
+use mathlib.Core.Path.{_≡_, _∙_}
+use native.Mathlib.Omega.{arith}
+use Rattle.laws.specs.Parts.{part}
+use Rattle.connectivity.specs.NextLevel.{newEdge}
+use Rattle.connectivity.proofs.Triangles.{Filled, all-three, filled-start, filled-long, filled-three, filled-trio, edges-on, edges-done}
+use Rattle.connectivity.proofs.level.next_edges.Statement.{statement}
+use Rattle.connectivity.proofs.level.next_edges.Tie as tie
+
+abbrev Inv-loop : tie.InvT-loop
+Inv-loop edge₀ twin at halfedges edges first₀ edge first = Filled halfedges at (newEdge (part twin at halfedges) (part edge₀ at halfedges) edges) edge₀ edge first
+
+abbrev μ-loop : tie.MeasureT-loop
+μ-loop edge₀ twin at halfedges edges first₀ edge first = halfedges - first
+
+-- a turn: where the function started, and the triangle that is there
+module _ (i : tie.In-loop Inv-loop μ-loop) where
+  abbrev start : tie.Start Inv-loop μ-loop
+  start = i .before .before .before .before
+
+  whole : i .before .loop .first + 3 ≤ start .args .level .halfedges
+  whole = filled-three (start .pre .0 .0) _ (i .before .loop .inv) (i .loop-test .taken)
+
+loop-holds : tie.Need-loop-holds Inv-loop μ-loop
+loop-holds c = filled-start (c .before .before .pre .0 .0) _
+
+add-three : tie.Need-add-three Inv-loop μ-loop
+add-three c = let i = c .before in omega (arith, whole i, start i .pre .0 .0 .room, start i .good)
+
+three-requires : tie.Need-three-requires Inv-loop μ-loop
+three-requires c κs = let i = c .before in omega (arith, whole i, start i .pre .0 .0 .room, filled-long (start i .pre .0 .0) _ (i .before .loop .inv))
+
+add-three-2 : tie.Need-add-three-2 Inv-loop μ-loop
+add-three-2 c = let i = c .before .before in omega (arith, whole i, start i .pre .0 .0 .room, start i .good)
+
+three-requires-2 : tie.Need-three-requires-2 Inv-loop μ-loop
+three-requires-2 c κs = let i = c .before .before in omega (arith, whole i, start i .pre .0 .1 .room)
+
+edge-rows-requires : tie.Need-edge-rows-requires Inv-loop μ-loop
+edge-rows-requires c κs =
+    let i = c .before .before .before in
+    let n = start i .pre .0 .0 .small in (
+      all-three (λ e. e < 4194304) (start i .pre .1) (whole i) (c .before .three .ensures ∙ filled-trio (start i .pre .0 .0) _ (i .before .loop .inv) (i .loop-test .taken)),
+      (n .edges, omega (arith, whole i, n .halfedges)),
+    )
+
+add-put : tie.Need-add-put Inv-loop μ-loop
+add-put c = let i = c .before .before .before .before .before in omega (arith, start i .pre .0 .0 .room, start i .good)
+
+put-requires : tie.Need-put-requires Inv-loop μ-loop
+put-requires c κs =
+    let i = c .before .before .before .before .before in
+    (omega (arith, start i .pre .0 .0 .room, filled-long (start i .pre .0 .0) _ (i .before .loop .inv)), whole i)
+
+add-first : tie.Need-add-first Inv-loop μ-loop
+add-first c = let i = c .before .before .before .before .before .before .before .before in omega (arith, whole i, start i .pre .0 .0 .small .halfedges)
+
+loop-less : tie.Need-loop-less Inv-loop μ-loop
+loop-less c = let i = c .before .before .before .before .before .before .before .before in omega (arith, whole i)
+
+loop-again : tie.Need-loop-again Inv-loop μ-loop
+loop-again c =
+    let p = c .before .before in
+    let r = p .before .before in
+    let i = r .before .before .before .before in
+    edges-on (start i .pre .0 .0) _ (i .before .loop .inv) (i .loop-test .taken) (r .before .before .three .ensures) (r .before .three2 .ensures) (r .edge-rows .ensures) (p .put .ensures)
+
+same-length : tie.Need-same-length Inv-loop μ-loop
+same-length c = filled-long (c .before .before .before .before .pre .0 .0) _ (c .before .loop .inv)
+
+returns : tie.Need-returns Inv-loop μ-loop
+returns c = edges-done (c .before .before .before .before .pre .0 .0) _ (c .before .loop .inv) (c .loop-test .left)
+
+pub next-edges-spec : {M : Type 1} → statement M
+next-edges-spec =
+    tie.close
+    (tie.spec
+    Inv-loop
+    μ-loop
+    loop-holds
+    add-three
+    three-requires
+    add-three-2
+    three-requires-2
+    edge-rows-requires
+    add-put
+    put-requires
+    add-first
+    loop-less
+    loop-again
+    same-length
+    returns)

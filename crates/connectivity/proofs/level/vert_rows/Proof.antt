@@ -1,0 +1,39 @@
+-- `vert_rows` puts the three edges' vertices where the rows have them.
+use borrow.Author.Needs.{needs}
+use Rattle.connectivity.specs.InPlace.{vertRows}
+use Rattle.connectivity.proofs.level.vert_rows.Statement.{statement}
+use Rattle.connectivity.proofs.level.vert_rows.Tie as tie
+
+array-read-on-edge : tie.Need-array-read-on-edge
+array-read-on-edge c = search needs
+
+on-edge-requires : tie.Need-on-edge-requires
+on-edge-requires c κs = search needs
+
+array-read-on-edge-2 : tie.Need-array-read-on-edge-2
+array-read-on-edge-2 c = search needs
+
+on-edge-requires-2 : tie.Need-on-edge-requires-2
+on-edge-requires-2 c κs = search needs
+
+array-read-on-edge-3 : tie.Need-array-read-on-edge-3
+array-read-on-edge-3 c = search needs
+
+on-edge-requires-3 : tie.Need-on-edge-requires-3
+on-edge-requires-3 c κs = search needs
+
+returns : tie.Need-returns
+unfolding vertRows
+returns c = rw (c .before .before .on-edge .ensures, c .before .on-edge2 .ensures, c .on-edge3 .ensures)
+
+pub vert-rows-spec : {M : Type 1} → statement M
+vert-rows-spec =
+    tie.close
+    (tie.spec
+    array-read-on-edge
+    on-edge-requires
+    array-read-on-edge-2
+    on-edge-requires-2
+    array-read-on-edge-3
+    on-edge-requires-3
+    returns)
