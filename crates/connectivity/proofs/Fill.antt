@@ -3,18 +3,18 @@
 use Prim.Native.Nat.{ℕ, _+_, _-_, _*_, _≤_, _<_}
 use mathlib.Core.Path.{_≡_, refl, sym, ap, _∙_}
 use mathlib.Core.Logic.{_≢_}
-use mathlib.Core.List.{List, _++_}
+use mathlib.Core.List.{List, [], _∷_, _++_}
 use native.Mathlib.Decide.{decLt, ℕ-discrete}
 use native.Mathlib.Nat.{zero-add}
 use native.Mathlib.Omega.{arith}
 use lib.ListN.{length, take, drop, set, length-set}
 use lib.Seq.{getD-set-same, getD-set-other}
-use Rattle.connectivity.specs.declared.level.Rows.{Rows}
+use Rattle.connectivity.specs.declared.level.Split.{Split}
 use Rattle.laws.specs.Below.{tabulate}
 use Rattle.laws.proofs.Tabulate.{length-tabulate, getD-tabulate}
 use Rattle.laws.proofs.Middles.{splice-ext}
 use Rattle.halfedges.specs.Cage.{cell}
-use Rattle.connectivity.specs.InPlace.{trio, setThree, setRows}
+use Rattle.connectivity.specs.InPlace.{trio, setThree, setSplit}
 
 -- three cells stored together
 module _ (xs : List ℕ) (k a b c : ℕ) where
@@ -71,10 +71,15 @@ module _ (ys : List ℕ) (s m : ℕ) (f : ℕ → ℕ) (run : Run ys s m f) wher
           let d : s + (m + 2) ≡ k + 2 = omega arith in
           new (let t : i ≡ m + 2 = omega (arith, o, z, w) in t) (rw d (three-third ys k a b c room)) r
 
--- the four rows by the new cells
-abbrev pub rowsBy : (ℕ → ℕ) → ℕ → ℕ → Rows
-rowsBy new n h =
-    record { corner = trio (λ k. new (3 * k)) h; across = trio (λ k. new (3 * k + 1)) h; back = trio (λ k. new (3 * k + 2)) h; middle = trio (λ k. new (3 * n + k)) h }
+-- the split by the new cells
+abbrev pub splitBy : (ℕ → ℕ) → ℕ → ℕ → Split
+splitBy new n h =
+    record {
+      first = new (3 * h) ∷ new (3 * h + 1) ∷ new (3 * h + 2) ∷ [];
+      second = new (3 * (h + 1)) ∷ new (3 * (h + 1) + 1) ∷ new (3 * (h + 1) + 2) ∷ [];
+      third = new (3 * (h + 2)) ∷ new (3 * (h + 2) + 1) ∷ new (3 * (h + 2) + 2) ∷ [];
+      middle = trio (λ k. new (3 * n + k)) h;
+    }
 
 -- in ys the new cells of all halfedges below h are filled in, from base on; past the next level and before it stands what xs has
 pub record Going (xs : List ℕ) (base n : ℕ) (new : ℕ → ℕ) (ys : List ℕ) (h : ℕ) : Type 0 where
@@ -155,8 +160,8 @@ module _ (xs : List ℕ) (base n : ℕ) (new : ℕ → ℕ) (room : base + 4 * n
       past-all : (m : ℕ) → Run all (base + 4 * n) m (λ k. cell xs (base + 4 * n + k))
       past-all m = run-after three (base + 4 * n) m _ (after-three (base + 4 * n) m _ (omega arith) (g .past m)) (base + (3 * n + h)) _ _ _ (omega arith)
 
-      pub going-on : {zs : List ℕ} → zs ≡ setRows ys base n h (rowsBy new n h) → Going xs base n new zs (h + 3)
-      unfolding setRows
+      pub going-on : {zs : List ℕ} → zs ≡ setSplit ys base n h (splitBy new n h) → Going xs base n new zs (h + 3)
+      unfolding setSplit
       going-on e =
           rw e
           (record {

@@ -7,16 +7,16 @@ use mathlib.Core.List.{List, [], _∷_}
 use native.Mathlib.Omega.{arith}
 use lib.ListN.{length}
 use Rattle.halfedges.specs.declared.table.HalfedgeTable.{HalfedgeTable}
-use Rattle.connectivity.specs.declared.level.Rows.{Rows}
+use Rattle.connectivity.specs.declared.level.Split.{Split}
 use Rattle.laws.specs.Below.{tabulate}
 use Rattle.laws.specs.Parts.{part}
 use Rattle.laws.proofs.Parts.{length-part, part-at}
 use Rattle.halfedges.specs.Cage.{PREV, cell, above}
 use Rattle.halfedges.proofs.Triangle.{prev-first, prev-other}
 use Rattle.connectivity.specs.NextLevel.{newTwin, newEdge, newVert, nextTwins, nextEdges, nextVerts}
-use Rattle.connectivity.specs.InPlace.{trio, outerTwin, innerTwin, isAbove, twinRows, vertRows, edgeRows, setRows, withNext, Housed}
+use Rattle.connectivity.specs.InPlace.{trio, outerTwin, innerTwin, isAbove, splitTwins, splitVerts, splitEdges, setSplit, withNext, Housed}
 use Rattle.connectivity.proofs.Rows.{at-corner, at-across, at-back, at-middle}
-use Rattle.connectivity.proofs.Fill.{Going, rowsBy, going-start, going-on, going-before, going-done}
+use Rattle.connectivity.proofs.Fill.{Going, splitBy, going-start, going-on, going-before, going-done}
 
 -- numbers counted up one by one, and by threes
 pub count-one : (a h : ℕ) → (a + h) ∷ (a + h + 1) ∷ (a + h + 2 * 1) ∷ [] ≡ trio (λ k. a + k) h
@@ -37,14 +37,15 @@ module _ (n h : ℕ) (first : h % 3 ≡ 0) (l : h + 3 ≤ n) where
   each : (f g : ℕ → ℕ) → ((k : ℕ) → k < n → f k ≡ g k) → trio f h ≡ trio g h
   each f g e = λ i. e h (omega arith) i ∷ e (h + 1) (omega arith) i ∷ e (h + 2) (omega arith) i ∷ []
 
-  -- and what each has from the one before it
-  each-before : (f g : ℕ → ℕ) → ((k p : ℕ) → k < n → p < n → p ≡ PREV k → f k ≡ g p) → trio f h ≡ g (h + 2) ∷ g h ∷ g (h + 1) ∷ []
-  each-before f g e =
-      λ i.
-      e h (h + 2) (omega arith) (omega arith) (omega (arith, prev-first h first)) i
-      ∷ e (h + 1) h (omega arith) (omega arith) (omega (arith, first, prev-other (h + 1) (omega (arith, first)))) i
-      ∷ e (h + 2) (h + 1) (omega arith) (omega arith) (omega (arith, first, prev-other (h + 2) (omega (arith, first)))) i
-      ∷ []
+  -- the halfedge before each
+  first-before : h + 2 ≡ PREV h
+  first-before = omega (arith, prev-first h first)
+
+  second-before : h ≡ PREV (h + 1)
+  second-before = omega (arith, first, prev-other (h + 1) (omega (arith, first)))
+
+  third-before : h + 1 ≡ PREV (h + 2)
+  third-before = omega (arith, first, prev-other (h + 2) (omega (arith, first)))
 
   -- its cells, in a table that has xs's cells there
   trio-read : (xs ys : List ℕ) (at : ℕ) → ((k : ℕ) → k < at + n → cell ys k ≡ cell xs k) → trio (cell ys) (at + h) ≡ trio (λ k. cell xs (at + k)) h
@@ -53,44 +54,60 @@ module _ (n h : ℕ) (first : h % 3 ≡ 0) (l : h + 3 ≤ n) where
       let q : at + h + 2 ≡ at + (h + 2) = omega arith in
       rw (p, q) (each (λ k. cell ys (at + k)) (λ k. cell xs (at + k)) (λ k m. e (at + k) (omega arith)))
 
-  -- its rows by the new cells: all but the last are alike in the three tables
-  rows-are : (new corner across back : ℕ → ℕ) {middle : List ℕ}
+  -- its split by the new cells: but for the middle triangle this is alike in the three tables
+  split-is : (new corner across back : ℕ → ℕ) {middle : List ℕ}
       → ((k : ℕ) → k < n → new (3 * k) ≡ corner k)
       → ((k : ℕ) → k < n → new (3 * k + 1) ≡ across k)
       → ((k p : ℕ) → k < n → p < n → p ≡ PREV k → new (3 * k + 2) ≡ back p)
       → trio (λ k. new (3 * n + k)) h ≡ middle
-      → rowsBy new n h ≡ record { corner = trio corner h; across = trio across h; back = back (h + 2) ∷ back h ∷ back (h + 1) ∷ []; middle = middle }
-  rows-are new corner across back p q r s =
-      λ i. record { corner = each (λ k. new (3 * k)) corner p i; across = each (λ k. new (3 * k + 1)) across q i; back = each-before (λ k. new (3 * k + 2)) back r i; middle = s i }
+      → splitBy new n h ≡ record {
+        first = corner h ∷ across h ∷ back (h + 2) ∷ [];
+        second = corner (h + 1) ∷ across (h + 1) ∷ back h ∷ [];
+        third = corner (h + 2) ∷ across (h + 2) ∷ back (h + 1) ∷ [];
+        middle = middle;
+      }
+  split-is new corner across back p q r s =
+      λ i.
+      record {
+        first = p h (omega arith) i ∷ q h (omega arith) i ∷ r h (h + 2) (omega arith) (omega arith) first-before i ∷ [];
+        second = p (h + 1) (omega arith) i ∷ q (h + 1) (omega arith) i ∷ r (h + 1) h (omega arith) (omega arith) second-before i ∷ [];
+        third = p (h + 2) (omega arith) i ∷ q (h + 2) (omega arith) i ∷ r (h + 2) (h + 1) (omega arith) (omega arith) third-before i ∷ [];
+        middle = s i;
+      }
 
--- the rows of a triangle by the level's cells, as they lie in the tables
+-- the split of a triangle by the level's cells, as they lie in the tables
 module _ (at n h : ℕ) (first : h % 3 ≡ 0) (l : h + 3 ≤ n) where
-  twin-rows : (twin : List ℕ) → at + n ≤ length twin → rowsBy (newTwin (part twin at n)) n h ≡ twinRows (trio (λ k. cell twin (at + k)) h) n h
-  unfolding newTwin twinRows
-  twin-rows twin room =
+  twin-split : (twin : List ℕ) → at + n ≤ length twin → splitBy (newTwin (part twin at n)) n h ≡ splitTwins (trio (λ k. cell twin (at + k)) h) n h
+  unfolding newTwin splitTwins
+  twin-split twin room =
       let long : length (part twin at n) ≡ n = length-part twin at n room in
-      rows-are n h first l (newTwin (part twin at n)) (λ k. outerTwin (cell twin (at + k))) (λ k. 3 * n + k) (λ k. innerTwin (cell twin (at + k)))
+      split-is n h first l (newTwin (part twin at n)) (λ k. outerTwin (cell twin (at + k))) (λ k. 3 * n + k) (λ k. innerTwin (cell twin (at + k)))
       (λ k m. rw long (at-corner n _ _ _ _ k m ∙ rw (part-at twin at n k 0 m)))
       (λ k m. rw long (at-across n _ _ _ _ k m))
       (λ k p m o q. rw long (at-back n _ _ _ _ k m ∙ rw (← q, part-at twin at n p 0 o)))
       (each n h first l (λ k. newTwin (part twin at n) (3 * n + k)) (λ k. 3 * k + 1) (λ k m. rw long (at-middle n _ _ _ _ k m)))
 
-  vert-rows : (vert edge : List ℕ) (v : ℕ) → at + n ≤ length vert → rowsBy (newVert (part vert at n) (part edge at n) v) n h ≡ vertRows (trio (λ k. cell vert (at + k)) h) (trio (λ k. cell edge (at + k)) h) v
-  unfolding newVert vertRows
-  vert-rows vert edge v room =
+  vert-split : (vert edge : List ℕ) (v : ℕ) → at + n ≤ length vert → splitBy (newVert (part vert at n) (part edge at n) v) n h ≡ splitVerts (trio (λ k. cell vert (at + k)) h) (trio (λ k. cell edge (at + k)) h) v
+  unfolding newVert splitVerts
+  vert-split vert edge v room =
       let long : length (part vert at n) ≡ n = length-part vert at n room in
-      rows-are n h first l (newVert (part vert at n) (part edge at n) v) (λ k. cell vert (at + k)) (λ k. v + cell edge (at + k)) (λ k. v + cell edge (at + k))
+      split-is n h first l (newVert (part vert at n) (part edge at n) v) (λ k. cell vert (at + k)) (λ k. v + cell edge (at + k)) (λ k. v + cell edge (at + k))
       (λ k m. rw long (at-corner n _ _ _ _ k m ∙ part-at vert at n k 0 m))
       (λ k m. rw long (at-across n _ _ _ _ k m ∙ rw (part-at edge at n k 0 m)))
       (λ k p m o q. rw long (at-back n _ _ _ _ k m ∙ rw (← q, part-at edge at n p 0 o)))
-      (each-before n h first l (λ k. newVert (part vert at n) (part edge at n) v (3 * n + k)) (λ k. v + cell edge (at + k))
-      (λ k p m o q. rw long (at-middle n _ _ _ _ k m ∙ rw (← q, part-at edge at n p 0 o))))
+      (let middle : (k p : ℕ) → k < n → p < n → p ≡ PREV k → newVert (part vert at n) (part edge at n) v (3 * n + k) ≡ v + cell edge (at + p) =
+      λ k p m o q. rw long (at-middle n _ _ _ _ k m ∙ rw (← q, part-at edge at n p 0 o)) in
+      λ i.
+      middle h (h + 2) (omega arith) (omega arith) (first-before n h first l) i
+      ∷ middle (h + 1) h (omega arith) (omega arith) (second-before n h first l) i
+      ∷ middle (h + 2) (h + 1) (omega arith) (omega arith) (third-before n h first l) i
+      ∷ [])
 
-  edge-rows : (twin edge : List ℕ) (e : ℕ) → at + n ≤ length edge → rowsBy (newEdge (part twin at n) (part edge at n) e) n h ≡ edgeRows (trio (λ k. cell edge (at + k)) h) (trio (λ k. cell twin (at + k)) h) e h
-  unfolding newEdge edgeRows above
-  edge-rows twin edge e room =
+  edge-split : (twin edge : List ℕ) (e : ℕ) → at + n ≤ length edge → splitBy (newEdge (part twin at n) (part edge at n) e) n h ≡ splitEdges (trio (λ k. cell edge (at + k)) h) (trio (λ k. cell twin (at + k)) h) e h
+  unfolding newEdge splitEdges above
+  edge-split twin edge e room =
       let long : length (part edge at n) ≡ n = length-part edge at n room in
-      rows-are n h first l (newEdge (part twin at n) (part edge at n) e)
+      split-is n h first l (newEdge (part twin at n) (part edge at n) e)
       (λ k. 2 * cell edge (at + k) + cond (isAbove (cell twin (at + k)) k) 0 1)
       (λ k. 2 * e + k)
       (λ k. 2 * cell edge (at + k) + cond (isAbove (cell twin (at + k)) k) 1 0)
@@ -131,10 +148,10 @@ module _ {t : HalfedgeTable} {at : ℕ} {xs : List ℕ} (s : Housed t at xs) whe
       pub filled-trio : h < n → trio (cell ys) (at + h) ≡ trio (λ k. cell xs (at + k)) h
       filled-trio l = trio-read n h (f .first) (filled-three l) xs ys at (going-before xs (at + n) n new room (f .going))
 
-      filled-on : {zs : List ℕ} {r : Rows} → h < n → zs ≡ setRows ys (at + n) n h r → r ≡ rowsBy new n h → Filled n at new xs zs (h + 3)
+      filled-on : {zs : List ℕ} {r : Split} → h < n → zs ≡ setSplit ys (at + n) n h r → r ≡ splitBy new n h → Filled n at new xs zs (h + 3)
       filled-on l e q =
           record {
-            going = going-on xs (at + n) n new room (f .going) (filled-three l) (e ∙ ap (setRows ys (at + n) n h) q);
+            going = going-on xs (at + n) n new room (f .going) (filled-three l) (e ∙ ap (setSplit ys (at + n) n h) q);
             first = omega (arith, f .first);
             within = filled-three l;
           }
@@ -147,10 +164,10 @@ module _ {t : HalfedgeTable} {at : ℕ} {xs : List ℕ} (s : Housed t at xs) whe
   long : length (part xs at n) ≡ n
   long = length-part xs at n (omega (arith, s .room))
 
-  pub twins-on : {ys zs c : List ℕ} {r : Rows} {h : ℕ} → Filled n at (newTwin (part xs at n)) xs ys h → h < n → c ≡ trio (cell ys) (at + h) → r ≡ twinRows c n h → zs ≡ setRows ys (at + n) n h r → Filled n at (newTwin (part xs at n)) xs zs (h + 3)
+  pub twins-on : {ys zs c : List ℕ} {r : Split} {h : ℕ} → Filled n at (newTwin (part xs at n)) xs ys h → h < n → c ≡ trio (cell ys) (at + h) → r ≡ splitTwins c n h → zs ≡ setSplit ys (at + n) n h r → Filled n at (newTwin (part xs at n)) xs zs (h + 3)
   twins-on {h = h} f l e q p =
       filled-on _ f l p
-      (q ∙ ap (λ c. twinRows c n h) (e ∙ filled-trio _ f l) ∙ sym (twin-rows at n h (f .first) (filled-three _ f l) xs (omega (arith, s .room))))
+      (q ∙ ap (λ c. splitTwins c n h) (e ∙ filled-trio _ f l) ∙ sym (twin-split at n h (f .first) (filled-three _ f l) xs (omega (arith, s .room))))
 
   pub twins-done : {ys : List ℕ} {h : ℕ} → Filled n at (newTwin (part xs at n)) xs ys h → n ≤ h → ys ≡ withNext xs at n (nextTwins (part xs at n))
   unfolding nextTwins
@@ -160,21 +177,21 @@ module _ {t : HalfedgeTable} {at : ℕ} {xs : List ℕ} (s : Housed t at xs) whe
     pub other-trio : (h : ℕ) → h % 3 ≡ 0 → h + 3 ≤ n → trio (cell other) (at + h) ≡ trio (λ k. cell other (at + k)) h
     other-trio h z l = trio-read n h z l other other at (λ k m. refl)
 
-    pub verts-on : {ys zs c d : List ℕ} {r : Rows} {h : ℕ} → Filled n at (newVert (part xs at n) (part other at n) (t .vertices)) xs ys h → h < n → c ≡ trio (cell ys) (at + h) → d ≡ trio (cell other) (at + h) → r ≡ vertRows c d (t .vertices) → zs ≡ setRows ys (at + n) n h r → Filled n at (newVert (part xs at n) (part other at n) (t .vertices)) xs zs (h + 3)
+    pub verts-on : {ys zs c d : List ℕ} {r : Split} {h : ℕ} → Filled n at (newVert (part xs at n) (part other at n) (t .vertices)) xs ys h → h < n → c ≡ trio (cell ys) (at + h) → d ≡ trio (cell other) (at + h) → r ≡ splitVerts c d (t .vertices) → zs ≡ setSplit ys (at + n) n h r → Filled n at (newVert (part xs at n) (part other at n) (t .vertices)) xs zs (h + 3)
     verts-on {h = h} f l e o q p =
         let w = filled-three _ f l in
         filled-on _ f l p
-        (q ∙ ap₂ (λ c d. vertRows c d (t .vertices)) (e ∙ filled-trio _ f l) (o ∙ other-trio h (f .first) w) ∙ sym (vert-rows at n h (f .first) w xs other (t .vertices) (omega (arith, s .room))))
+        (q ∙ ap₂ (λ c d. splitVerts c d (t .vertices)) (e ∙ filled-trio _ f l) (o ∙ other-trio h (f .first) w) ∙ sym (vert-split at n h (f .first) w xs other (t .vertices) (omega (arith, s .room))))
 
     pub verts-done : {ys : List ℕ} {h : ℕ} → Filled n at (newVert (part xs at n) (part other at n) (t .vertices)) xs ys h → n ≤ h → ys ≡ withNext xs at n (nextVerts (part xs at n) (part other at n) (t .vertices))
     unfolding nextVerts
     verts-done f l = filled-done _ f l long
 
-    pub edges-on : {ys zs c d : List ℕ} {r : Rows} {h : ℕ} → Filled n at (newEdge (part other at n) (part xs at n) (t .edges)) xs ys h → h < n → c ≡ trio (cell ys) (at + h) → d ≡ trio (cell other) (at + h) → r ≡ edgeRows c d (t .edges) h → zs ≡ setRows ys (at + n) n h r → Filled n at (newEdge (part other at n) (part xs at n) (t .edges)) xs zs (h + 3)
+    pub edges-on : {ys zs c d : List ℕ} {r : Split} {h : ℕ} → Filled n at (newEdge (part other at n) (part xs at n) (t .edges)) xs ys h → h < n → c ≡ trio (cell ys) (at + h) → d ≡ trio (cell other) (at + h) → r ≡ splitEdges c d (t .edges) h → zs ≡ setSplit ys (at + n) n h r → Filled n at (newEdge (part other at n) (part xs at n) (t .edges)) xs zs (h + 3)
     edges-on {h = h} f l e o q p =
         let w = filled-three _ f l in
         filled-on _ f l p
-        (q ∙ ap₂ (λ c d. edgeRows c d (t .edges) h) (e ∙ filled-trio _ f l) (o ∙ other-trio h (f .first) w) ∙ sym (edge-rows at n h (f .first) w other xs (t .edges) (omega (arith, s .room))))
+        (q ∙ ap₂ (λ c d. splitEdges c d (t .edges) h) (e ∙ filled-trio _ f l) (o ∙ other-trio h (f .first) w) ∙ sym (edge-split at n h (f .first) w other xs (t .edges) (omega (arith, s .room))))
 
     pub edges-done : {ys : List ℕ} {h : ℕ} → Filled n at (newEdge (part other at n) (part xs at n) (t .edges)) xs ys h → n ≤ h → ys ≡ withNext xs at n (nextEdges (part other at n) (part xs at n) (t .edges))
     unfolding nextEdges

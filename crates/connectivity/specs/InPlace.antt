@@ -7,7 +7,7 @@ use mathlib.Core.List.{List, [], _∷_, _++_}
 use lib.Dec.{eqb, ltb}
 use lib.ListN.{length, take, drop, set}
 use Rattle.halfedges.specs.declared.table.HalfedgeTable.{HalfedgeTable}
-use Rattle.connectivity.specs.declared.level.Rows.{Rows}
+use Rattle.connectivity.specs.declared.level.Split.{Split}
 use Rattle.laws.specs.Parts.{part, inFront}
 use Rattle.halfedges.specs.Cage.{NEXT, marker, most-halfedges, most-depth, cell}
 use Rattle.halfedges.specs.Counts.{AtMost, roomH}
@@ -32,10 +32,6 @@ withNextLevel t at x =
 abbrev pub trio : (ℕ → ℕ) → ℕ → List ℕ
 trio f h = f h ∷ f (h + 1) ∷ f (h + 2) ∷ []
 
--- what the halfedges before them have, from what they have themselves
-abbrev pub turned : (ℕ → ℕ) → List ℕ
-turned f = f 2 ∷ f 0 ∷ f 1 ∷ []
-
 -- "3·NEXT(t)+2" and "3·t'", where there is a twin
 abbrev pub outerTwin : ℕ → ℕ
 outerTwin t = cond (eqb t marker) marker (3 * NEXT t + 2)
@@ -47,32 +43,32 @@ innerTwin t = cond (eqb t marker) marker (3 * t)
 abbrev pub isAbove : ℕ → ℕ → Bool
 isAbove t h = eqb t marker || ltb t h
 
--- the four rows of TWIN, of VERT and of EDGE, from the cells of the triangle whose first halfedge is h
-unfoldable pub twinRows : List ℕ → ℕ → ℕ → Rows
-twinRows twins n h =
+-- the four triangles that a triangle is split into, in TWIN, VERT and EDGE: from its cells, where h is its first halfedge
+unfoldable pub splitTwins : List ℕ → ℕ → ℕ → Split
+splitTwins twins n h =
     record {
-      corner = trio (λ i. outerTwin (cell twins i)) 0;
-      across = trio (λ k. 3 * n + k) h;
-      back = turned (λ i. innerTwin (cell twins i));
+      first = outerTwin (cell twins 0) ∷ (3 * n + h) ∷ innerTwin (cell twins 2) ∷ [];
+      second = outerTwin (cell twins 1) ∷ (3 * n + (h + 1)) ∷ innerTwin (cell twins 0) ∷ [];
+      third = outerTwin (cell twins 2) ∷ (3 * n + (h + 2)) ∷ innerTwin (cell twins 1) ∷ [];
       middle = trio (λ k. 3 * k + 1) h;
     }
 
-unfoldable pub vertRows : List ℕ → List ℕ → ℕ → Rows
-vertRows verts edges v =
+unfoldable pub splitVerts : List ℕ → List ℕ → ℕ → Split
+splitVerts verts edges v =
     record {
-      corner = verts;
-      across = trio (λ i. v + cell edges i) 0;
-      back = turned (λ i. v + cell edges i);
-      middle = turned (λ i. v + cell edges i);
+      first = cell verts 0 ∷ (v + cell edges 0) ∷ (v + cell edges 2) ∷ [];
+      second = cell verts 1 ∷ (v + cell edges 1) ∷ (v + cell edges 0) ∷ [];
+      third = cell verts 2 ∷ (v + cell edges 2) ∷ (v + cell edges 1) ∷ [];
+      middle = (v + cell edges 2) ∷ (v + cell edges 0) ∷ (v + cell edges 1) ∷ [];
     }
 
-unfoldable pub edgeRows : List ℕ → List ℕ → ℕ → ℕ → Rows
-edgeRows edges twins e h =
+unfoldable pub splitEdges : List ℕ → List ℕ → ℕ → ℕ → Split
+splitEdges edges twins e h =
     let half : ℕ → ℕ → ℕ → ℕ → ℕ = λ i k a b. 2 * cell edges i + cond (isAbove (cell twins i) k) a b in
     record {
-      corner = half 0 h 0 1 ∷ half 1 (h + 1) 0 1 ∷ half 2 (h + 2) 0 1 ∷ [];
-      across = trio (λ k. 2 * e + k) h;
-      back = half 2 (h + 2) 1 0 ∷ half 0 h 1 0 ∷ half 1 (h + 1) 1 0 ∷ [];
+      first = half 0 h 0 1 ∷ (2 * e + h) ∷ half 2 (h + 2) 1 0 ∷ [];
+      second = half 1 (h + 1) 0 1 ∷ (2 * e + (h + 1)) ∷ half 0 h 1 0 ∷ [];
+      third = half 2 (h + 2) 0 1 ∷ (2 * e + (h + 2)) ∷ half 1 (h + 1) 1 0 ∷ [];
       middle = trio (λ k. 2 * e + k) h;
     }
 
@@ -80,13 +76,13 @@ edgeRows edges twins e h =
 abbrev pub setThree : List ℕ → ℕ → ℕ → ℕ → ℕ → List ℕ
 setThree xs k a b c = set (set (set xs k a) (k + 1) b) (k + 2) c
 
--- a triangle's rows in the next level of one of n halfedges, which starts at base
-unfoldable pub setRows : List ℕ → ℕ → ℕ → ℕ → Rows → List ℕ
-setRows xs base n h r =
-    let a = setThree xs (base + 3 * h) (cell (r .corner) 0) (cell (r .across) 0) (cell (r .back) 0) in
-    let b = setThree a (base + 3 * h + 3) (cell (r .corner) 1) (cell (r .across) 1) (cell (r .back) 1) in
-    let c = setThree b (base + 3 * h + 6) (cell (r .corner) 2) (cell (r .across) 2) (cell (r .back) 2) in
-    setThree c (base + (3 * n + h)) (cell (r .middle) 0) (cell (r .middle) 1) (cell (r .middle) 2)
+-- a triangle's split in the next level of one of n halfedges, which starts at base
+unfoldable pub setSplit : List ℕ → ℕ → ℕ → ℕ → Split → List ℕ
+setSplit xs base n h s =
+    let a = setThree xs (base + 3 * h) (cell (s .first) 0) (cell (s .first) 1) (cell (s .first) 2) in
+    let b = setThree a (base + 3 * h + 3) (cell (s .second) 0) (cell (s .second) 1) (cell (s .second) 2) in
+    let c = setThree b (base + 3 * h + 6) (cell (s .third) 0) (cell (s .third) 1) (cell (s .third) 2) in
+    setThree c (base + (3 * n + h)) (cell (s .middle) 0) (cell (s .middle) 1) (cell (s .middle) 2)
 
 -- cells of the three tables in front of what those held
 unfoldable pub tablesInFront : Tables → Tables → Tables

@@ -8,7 +8,7 @@ ghost use Rattle.laws.specs.Parts.{part};
 ghost use Rattle.halfedges.specs.Cage.{cell};
 ghost use Rattle.connectivity.specs.Tables.{tables};
 ghost use Rattle.connectivity.specs.NextLevel.{nextTwins, nextVerts, nextEdges};
-ghost use Rattle.connectivity.specs.InPlace.{trio, setThree, setRows, twinRows, vertRows, edgeRows, outerTwin, innerTwin, isAbove, SmallTwin, SmallTwins, SmallEdges, Housed, Standing, withNext, withNextLevel};
+ghost use Rattle.connectivity.specs.InPlace.{trio, setThree, setSplit, splitTwins, splitVerts, splitEdges, outerTwin, innerTwin, isAbove, SmallTwin, SmallTwins, SmallEdges, Housed, Standing, withNext, withNextLevel};
 use halfedges::table::HalfedgeTable;
 
 // A number of a table as an index.
@@ -86,118 +86,89 @@ fn three(table: &[u32], at: usize) -> [u32; 3]
     [table[at], table[at + 1], table[at + 2]]
 }
 
-// A table's new cells of a triangle, by the four rows: 3h, 3h+1, 3h+2 and 3H+h, of its three halfedges each.
-struct Rows {
-    corner: [u32; 3],
-    across: [u32; 3],
-    back: [u32; 3],
+// A table's cells of the four triangles that a triangle is split into: one at each of its halfedges, 3h, 3h+1 and 3h+2,
+// and the middle one, 3H+h.
+struct Split {
+    first: [u32; 3],
+    second: [u32; 3],
+    third: [u32; 3],
     middle: [u32; 3],
 }
 
 // TWIN, from the triangle's twins.
-fn twin_rows(twins: [u32; 3], halfedges: usize, first: usize) -> Rows
+fn split_twins(twins: [u32; 3], halfedges: usize, first: usize) -> Split
     requires { ⌜ (SmallTwin (cell twins 0)) × (SmallTwin (cell twins 1)) × (SmallTwin (cell twins 2)) ⌝ }
     requires { ⌜ (halfedges ≤ 4194304) × (first ≤ 4194304) ⌝ }
-    ensures { λ r. ⌜ r ≡ twinRows twins halfedges first ⌝ }
+    ensures { λ r. ⌜ r ≡ splitTwins twins halfedges first ⌝ }
 {
-    Rows {
-        corner: [
-            outer_twin(twins[0]),
-            outer_twin(twins[1]),
-            outer_twin(twins[2]),
-        ],
-        across: count_up(3 * halfedges + first, 1),
-        back: [
-            inner_twin(twins[2]),
-            inner_twin(twins[0]),
-            inner_twin(twins[1]),
-        ],
+    let across = count_up(3 * halfedges + first, 1);
+    Split {
+        first: [outer_twin(twins[0]), across[0], inner_twin(twins[2])],
+        second: [outer_twin(twins[1]), across[1], inner_twin(twins[0])],
+        third: [outer_twin(twins[2]), across[2], inner_twin(twins[1])],
         middle: count_up(3 * first + 1, 3),
     }
 }
 
 // VERT, from the triangle's corners and edges.
-fn vert_rows(verts: [u32; 3], edges: [u32; 3], vertices: usize) -> Rows
+fn split_verts(verts: [u32; 3], edges: [u32; 3], vertices: usize) -> Split
     requires { ⌜ (cell edges 0 < 4194304) × (cell edges 1 < 4194304) × (cell edges 2 < 4194304) ⌝ }
     requires { ⌜ vertices ≤ 4194304 ⌝ }
-    ensures { λ r. ⌜ r ≡ vertRows verts edges vertices ⌝ }
+    ensures { λ r. ⌜ r ≡ splitVerts verts edges vertices ⌝ }
 {
     let a = on_edge(edges[0], vertices);
     let b = on_edge(edges[1], vertices);
     let c = on_edge(edges[2], vertices);
-    Rows {
-        corner: verts,
-        across: [a, b, c],
-        back: [c, a, b],
+    Split {
+        first: [verts[0], a, c],
+        second: [verts[1], b, a],
+        third: [verts[2], c, b],
         middle: [c, a, b],
     }
 }
 
 // EDGE, from the triangle's edges and twins.
-fn edge_rows(edges: [u32; 3], twins: [u32; 3], all_edges: usize, first: usize) -> Rows
+fn split_edges(edges: [u32; 3], twins: [u32; 3], all_edges: usize, first: usize) -> Split
     requires { ⌜ (cell edges 0 < 4194304) × (cell edges 1 < 4194304) × (cell edges 2 < 4194304) ⌝ }
     requires { ⌜ («all_edges» ≤ 4194304) × (first ≤ 4194304) ⌝ }
-    ensures { λ r. ⌜ r ≡ edgeRows edges twins «all_edges» first ⌝ }
+    ensures { λ r. ⌜ r ≡ splitEdges edges twins «all_edges» first ⌝ }
 {
     let a = is_above(twins[0], first);
     let b = is_above(twins[1], first + 1);
     let c = is_above(twins[2], first + 2);
     let across = count_up(2 * all_edges + first, 1);
-    Rows {
-        corner: [
-            half(edges[0], a, 0, 1),
-            half(edges[1], b, 0, 1),
-            half(edges[2], c, 0, 1),
-        ],
-        across,
-        back: [
-            half(edges[2], c, 1, 0),
-            half(edges[0], a, 1, 0),
-            half(edges[1], b, 1, 0),
-        ],
+    Split {
+        first: [half(edges[0], a, 0, 1), across[0], half(edges[2], c, 1, 0)],
+        second: [half(edges[1], b, 0, 1), across[1], half(edges[0], a, 1, 0)],
+        third: [half(edges[2], c, 0, 1), across[2], half(edges[1], b, 1, 0)],
         middle: across,
     }
 }
 
 // Stores three cells together.
-fn store(table: &mut [u32], at: usize, a: u32, b: u32, c: u32)
+fn store(table: &mut [u32], at: usize, cells: [u32; 3])
     requires { ⌜ at + 3 ≤ length (now table) ⌝ }
-    ensures { λ _. ⌜ now (table .exit) ≡ setThree (now (table .entry)) at a b c ⌝ }
+    ensures { λ _. ⌜ now (table .exit) ≡ setThree (now (table .entry)) at (cell cells 0) (cell cells 1) (cell cells 2) ⌝ }
 {
-    table[at] = a;
-    table[at + 1] = b;
-    table[at + 2] = c;
+    table[at] = cells[0];
+    table[at + 1] = cells[1];
+    table[at + 2] = cells[2];
 }
 
-// Stores a triangle's rows in the next level, which starts at base: nine cells together and three apart.
-fn put(table: &mut [u32], base: usize, halfedges: usize, first: usize, rows: Rows)
+// Stores a triangle's split in the next level, which starts at base: nine cells together and three apart.
+fn put(table: &mut [u32], base: usize, halfedges: usize, first: usize, split: Split)
     requires { ⌜ (base + 4 * halfedges ≤ length (now table)) × (first + 3 ≤ halfedges) ⌝ }
-    ensures { λ _. ⌜ now (table .exit) ≡ setRows (now (table .entry)) base halfedges first rows ⌝ }
+    ensures { λ _. ⌜ now (table .exit) ≡ setSplit (now (table .entry)) base halfedges first split ⌝ }
 {
+    let a = split.first;
+    let b = split.second;
+    let c = split.third;
+    let middle = split.middle;
     let corner = base + 3 * first;
-    store(table, corner, rows.corner[0], rows.across[0], rows.back[0]);
-    store(
-        table,
-        corner + 3,
-        rows.corner[1],
-        rows.across[1],
-        rows.back[1],
-    );
-    store(
-        table,
-        corner + 6,
-        rows.corner[2],
-        rows.across[2],
-        rows.back[2],
-    );
-    let middle = base + (3 * halfedges + first);
-    store(
-        table,
-        middle,
-        rows.middle[0],
-        rows.middle[1],
-        rows.middle[2],
-    );
+    store(table, corner, a);
+    store(table, corner + 3, b);
+    store(table, corner + 6, c);
+    store(table, base + (3 * halfedges + first), middle);
 }
 
 // Writes the next level's TWIN after the level that stands at an offset.
@@ -209,8 +180,8 @@ fn next_twins(twin: &mut [u32], at: usize, level: HalfedgeTable)
     let halfedges = level.halfedges;
     let mut first = 0;
     while first < halfedges {
-        let rows = twin_rows(three(twin, at + first), halfedges, first);
-        put(twin, at + halfedges, halfedges, first, rows);
+        let split = split_twins(three(twin, at + first), halfedges, first);
+        put(twin, at + halfedges, halfedges, first, split);
         first += 3;
     }
 }
@@ -225,8 +196,8 @@ fn next_verts(vert: &mut [u32], edge: &[u32], at: usize, level: HalfedgeTable)
     let vertices = level.vertices;
     let mut first = 0;
     while first < halfedges {
-        let rows = vert_rows(three(vert, at + first), three(edge, at + first), vertices);
-        put(vert, at + halfedges, halfedges, first, rows);
+        let split = split_verts(three(vert, at + first), three(edge, at + first), vertices);
+        put(vert, at + halfedges, halfedges, first, split);
         first += 3;
     }
 }
@@ -241,13 +212,13 @@ fn next_edges(edge: &mut [u32], twin: &[u32], at: usize, level: HalfedgeTable)
     let edges = level.edges;
     let mut first = 0;
     while first < halfedges {
-        let rows = edge_rows(
+        let split = split_edges(
             three(edge, at + first),
             three(twin, at + first),
             edges,
             first,
         );
-        put(edge, at + halfedges, halfedges, first, rows);
+        put(edge, at + halfedges, halfedges, first, split);
         first += 3;
     }
 }

@@ -37,8 +37,8 @@ add-three-2 c = let i = c .before .before in omega (arith, whole i, start i .pre
 three-requires-2 : tie.Need-three-requires-2 Inv-loop μ-loop
 three-requires-2 c κs = let i = c .before .before in omega (arith, whole i, start i .pre .0 .1 .room)
 
-edge-rows-requires : tie.Need-edge-rows-requires Inv-loop μ-loop
-edge-rows-requires c κs =
+split-edges-requires : tie.Need-split-edges-requires Inv-loop μ-loop
+split-edges-requires c κs =
     let i = c .before .before .before in
     let n = start i .pre .0 .0 .small in (
       all-three (λ e. e < 4194304) (start i .pre .1) (whole i) (c .before .three .ensures ∙ filled-trio (start i .pre .0 .0) _ (i .before .loop .inv) (i .loop-test .taken)),
@@ -64,7 +64,7 @@ loop-again c =
     let p = c .before .before in
     let r = p .before .before in
     let i = r .before .before .before .before in
-    edges-on (start i .pre .0 .0) _ (i .before .loop .inv) (i .loop-test .taken) (r .before .before .three .ensures) (r .before .three2 .ensures) (r .edge-rows .ensures) (p .put .ensures)
+    edges-on (start i .pre .0 .0) _ (i .before .loop .inv) (i .loop-test .taken) (r .before .before .three .ensures) (r .before .three2 .ensures) (r .split-edges .ensures) (p .put .ensures)
 
 same-length : tie.Need-same-length Inv-loop μ-loop
 same-length c = filled-long (c .before .before .before .before .pre .0 .0) _ (c .before .loop .inv)
@@ -83,7 +83,7 @@ next-edges-spec =
     three-requires
     add-three-2
     three-requires-2
-    edge-rows-requires
+    split-edges-requires
     add-put
     put-requires
     add-first

@@ -32,8 +32,8 @@ add-three c = let i = c .before in omega (arith, whole i, start i .pre .0 .room,
 three-requires : tie.Need-three-requires Inv-loop μ-loop
 three-requires c κs = let i = c .before in omega (arith, whole i, start i .pre .0 .room, filled-long (start i .pre .0) _ (i .before .loop .inv))
 
-twin-rows-requires : tie.Need-twin-rows-requires Inv-loop μ-loop
-twin-rows-requires c κs =
+split-twins-requires : tie.Need-split-twins-requires Inv-loop μ-loop
+split-twins-requires c κs =
     let i = c .before .before in (
       all-three SmallTwin (start i .pre .1) (whole i) (c .three .ensures ∙ filled-trio (start i .pre .0) _ (i .before .loop .inv) (i .loop-test .taken)),
       (start i .pre .0 .small .halfedges, omega (arith, whole i, start i .pre .0 .small .halfedges)),
@@ -58,7 +58,7 @@ loop-again c =
     let p = c .before .before in
     let r = p .before .before in
     let i = r .before .before .before in
-    twins-on (start i .pre .0) (i .before .loop .inv) (i .loop-test .taken) (r .before .three .ensures) (r .twin-rows .ensures) (p .put .ensures)
+    twins-on (start i .pre .0) (i .before .loop .inv) (i .loop-test .taken) (r .before .three .ensures) (r .split-twins .ensures) (p .put .ensures)
 
 same-length : tie.Need-same-length Inv-loop μ-loop
 same-length c = filled-long (c .before .before .before .pre .0) _ (c .before .loop .inv)
@@ -75,7 +75,7 @@ next-twins-spec =
     loop-holds
     add-three
     three-requires
-    twin-rows-requires
+    split-twins-requires
     add-put
     put-requires
     add-first

@@ -37,8 +37,8 @@ add-three-2 c = let i = c .before .before in omega (arith, whole i, start i .pre
 three-requires-2 : tie.Need-three-requires-2 Inv-loop μ-loop
 three-requires-2 c κs = let i = c .before .before in omega (arith, whole i, start i .pre .0 .1 .room)
 
-vert-rows-requires : tie.Need-vert-rows-requires Inv-loop μ-loop
-vert-rows-requires c κs =
+split-verts-requires : tie.Need-split-verts-requires Inv-loop μ-loop
+split-verts-requires c κs =
     let i = c .before .before .before in
     (all-three (λ e. e < 4194304) (start i .pre .1) (whole i) (c .three2 .ensures ∙ other-trio (start i .pre .0 .0) (start i .args .edge .now) _ (i .before .loop .inv .first) (whole i)), start i .pre .0 .0 .small .vertices)
 
@@ -61,7 +61,7 @@ loop-again c =
     let p = c .before .before in
     let r = p .before .before in
     let i = r .before .before .before .before in
-    verts-on (start i .pre .0 .0) _ (i .before .loop .inv) (i .loop-test .taken) (r .before .before .three .ensures) (r .before .three2 .ensures) (r .vert-rows .ensures) (p .put .ensures)
+    verts-on (start i .pre .0 .0) _ (i .before .loop .inv) (i .loop-test .taken) (r .before .before .three .ensures) (r .before .three2 .ensures) (r .split-verts .ensures) (p .put .ensures)
 
 same-length : tie.Need-same-length Inv-loop μ-loop
 same-length c = filled-long (c .before .before .before .before .pre .0 .0) _ (c .before .loop .inv)
@@ -80,7 +80,7 @@ next-verts-spec =
     three-requires
     add-three-2
     three-requires-2
-    vert-rows-requires
+    split-verts-requires
     add-put
     put-requires
     add-first

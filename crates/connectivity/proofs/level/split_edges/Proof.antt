@@ -1,10 +1,10 @@
--- `edge_rows` puts what its callees answer where the rows have it.
+-- `split_edges` puts what its callees answer where the rows have it.
 use borrow.Author.Needs.{needs}
 use mathlib.Core.Path.{_≡_, _∙_}
-use Rattle.connectivity.specs.InPlace.{edgeRows}
+use Rattle.connectivity.specs.InPlace.{splitEdges}
 use Rattle.connectivity.proofs.Triangles.{count-one}
-use Rattle.connectivity.proofs.level.edge_rows.Statement.{statement}
-use Rattle.connectivity.proofs.level.edge_rows.Tie as tie
+use Rattle.connectivity.proofs.level.split_edges.Statement.{statement}
+use Rattle.connectivity.proofs.level.split_edges.Tie as tie
 
 array-read-is-above : tie.Need-array-read-is-above
 array-read-is-above c = search needs
@@ -45,6 +45,9 @@ array-read-half c = search needs
 half-requires : tie.Need-half-requires
 half-requires c κs = search needs
 
+array-read-t26 : tie.Need-array-read-t26
+array-read-t26 c = search needs
+
 array-read-half-2 : tie.Need-array-read-half-2
 array-read-half-2 c = search needs
 
@@ -56,6 +59,9 @@ array-read-half-3 c = search needs
 
 half-requires-3 : tie.Need-half-requires-3
 half-requires-3 c κs = search needs
+
+array-read-t37 : tie.Need-array-read-t37
+array-read-t37 c = search needs
 
 array-read-half-4 : tie.Need-array-read-half-4
 array-read-half-4 c = search needs
@@ -69,6 +75,9 @@ array-read-half-5 c = search needs
 half-requires-5 : tie.Need-half-requires-5
 half-requires-5 c κs = search needs
 
+array-read-t49 : tie.Need-array-read-t49
+array-read-t49 c = search needs
+
 array-read-half-6 : tie.Need-array-read-half-6
 array-read-half-6 c = search needs
 
@@ -76,15 +85,16 @@ half-requires-6 : tie.Need-half-requires-6
 half-requires-6 c κs = search needs
 
 returns : tie.Need-returns
-unfolding edgeRows
+unfolding splitEdges
 returns c =
-    let h = c .before .before .before in
-    let u = h .before .before .before in
-    let a = u .before in
-    rw (h .before .before .half .ensures, h .before .half2 .ensures, h .half3 .ensures, c .before .before .half4 .ensures, c .before .half5 .ensures, c .half6 .ensures, u .count-up .ensures ∙ count-one _ _, a .before .before .is-above .ensures, a .before .is-above2 .ensures, a .is-above3 .ensures)
+    let second = c .before .before in
+    let first = second .before .before in
+    let across = first .before .before in
+    let above = across .before in
+    rw (first .before .half .ensures, first .half2 .ensures, second .before .half3 .ensures, second .half4 .ensures, c .before .half5 .ensures, c .half6 .ensures, across .count-up .ensures ∙ count-one _ _, above .before .before .is-above .ensures, above .before .is-above2 .ensures, above .is-above3 .ensures)
 
-pub edge-rows-spec : {M : Type 1} → statement M
-edge-rows-spec =
+pub split-edges-spec : {M : Type 1} → statement M
+split-edges-spec =
     tie.close
     (tie.spec
     array-read-is-above
@@ -100,14 +110,17 @@ edge-rows-spec =
     count-up-requires
     array-read-half
     half-requires
+    array-read-t26
     array-read-half-2
     half-requires-2
     array-read-half-3
     half-requires-3
+    array-read-t37
     array-read-half-4
     half-requires-4
     array-read-half-5
     half-requires-5
+    array-read-t49
     array-read-half-6
     half-requires-6
     returns)

@@ -1,8 +1,8 @@
--- `vert_rows` puts the three edges' vertices where the rows have them.
+-- `split_verts` puts the three edges' vertices where the rows have them.
 use borrow.Author.Needs.{needs}
-use Rattle.connectivity.specs.InPlace.{vertRows}
-use Rattle.connectivity.proofs.level.vert_rows.Statement.{statement}
-use Rattle.connectivity.proofs.level.vert_rows.Tie as tie
+use Rattle.connectivity.specs.InPlace.{splitVerts}
+use Rattle.connectivity.proofs.level.split_verts.Statement.{statement}
+use Rattle.connectivity.proofs.level.split_verts.Tie as tie
 
 array-read-on-edge : tie.Need-array-read-on-edge
 array-read-on-edge c = search needs
@@ -22,12 +22,21 @@ array-read-on-edge-3 c = search needs
 on-edge-requires-3 : tie.Need-on-edge-requires-3
 on-edge-requires-3 c κs = search needs
 
+array-read-t11 : tie.Need-array-read-t11
+array-read-t11 c = search needs
+
+array-read-t21 : tie.Need-array-read-t21
+array-read-t21 c = search needs
+
+array-read-t25 : tie.Need-array-read-t25
+array-read-t25 c = search needs
+
 returns : tie.Need-returns
-unfolding vertRows
+unfolding splitVerts
 returns c = rw (c .before .before .on-edge .ensures, c .before .on-edge2 .ensures, c .on-edge3 .ensures)
 
-pub vert-rows-spec : {M : Type 1} → statement M
-vert-rows-spec =
+pub split-verts-spec : {M : Type 1} → statement M
+split-verts-spec =
     tie.close
     (tie.spec
     array-read-on-edge
@@ -36,4 +45,7 @@ vert-rows-spec =
     on-edge-requires-2
     array-read-on-edge-3
     on-edge-requires-3
+    array-read-t11
+    array-read-t21
+    array-read-t25
     returns)
