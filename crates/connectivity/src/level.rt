@@ -223,8 +223,8 @@ fn next_edges(edge: &mut [u32], twin: &[u32], at: usize, level: HalfedgeTable)
     }
 }
 
-// Writes the next level of the level that stands at an offset straight after it, a table at a time: so few cells are
-// stored to at once that this takes three quarters of the time of all three together. A table goes before those it reads.
+// Writes the next level of the level that stands at an offset straight after it. A table at a time takes three quarters of
+// the time of all three together, since stores then go to fewer places at once.
 pub fn next_level(
     twin: &mut [u32],
     vert: &mut [u32],

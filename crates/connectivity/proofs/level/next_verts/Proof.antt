@@ -1,6 +1,6 @@
 -- `next_verts` goes through the triangles, and the level that it reads stands untouched before what it writes.
-use Prim.Native.Nat.{ℕ, _+_, _-_, _≤_, _<_}
-use mathlib.Core.Path.{_≡_, _∙_}
+use Prim.Native.Nat.{_+_, _-_, _≤_, _<_}
+use mathlib.Core.Path.{_∙_}
 use native.Mathlib.Omega.{arith}
 use Rattle.laws.specs.Parts.{part}
 use Rattle.connectivity.specs.NextLevel.{newVert}

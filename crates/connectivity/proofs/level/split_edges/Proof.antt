@@ -1,6 +1,6 @@
 -- `split_edges` puts what its callees answer where the rows have it.
 use borrow.Author.Needs.{needs}
-use mathlib.Core.Path.{_≡_, _∙_}
+use mathlib.Core.Path.{_∙_}
 use Rattle.connectivity.specs.InPlace.{splitEdges}
 use Rattle.connectivity.proofs.Triangles.{count-one}
 use Rattle.connectivity.proofs.level.split_edges.Statement.{statement}

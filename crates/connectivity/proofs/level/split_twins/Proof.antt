@@ -1,6 +1,6 @@
 -- `split_twins` puts what its callees answer where the rows have it.
 use borrow.Author.Needs.{needs}
-use mathlib.Core.Path.{_≡_, _∙_}
+use mathlib.Core.Path.{_∙_}
 use Rattle.connectivity.specs.InPlace.{splitTwins}
 use Rattle.connectivity.proofs.Triangles.{count-one, count-three}
 use Rattle.connectivity.proofs.level.split_twins.Statement.{statement}
