@@ -2,7 +2,6 @@
 -- triangle more in each table (`twins-on`, `verts-on`, `edges-on`), and what stands there in the end (`filled-done`). Assumes nothing.
 use Prim.Native.Nat.{ℕ, _+_, _*_, _%_, _≤_, _<_}
 use mathlib.Core.Path.{_≡_, refl, sym, ap, ap₂, _∙_}
-use mathlib.Core.Bool.{cond}
 use mathlib.Core.List.{List, [], _∷_}
 use native.Mathlib.Omega.{arith}
 use lib.ListN.{length}
@@ -14,7 +13,7 @@ use Rattle.laws.proofs.Parts.{length-part, part-at}
 use Rattle.halfedges.specs.Cage.{PREV, cell, above}
 use Rattle.halfedges.proofs.Triangle.{prev-first, prev-other}
 use Rattle.connectivity.specs.NextLevel.{newTwin, newEdge, newVert, nextTwins, nextEdges, nextVerts}
-use Rattle.connectivity.specs.InPlace.{trio, outerTwin, innerTwin, isAbove, splitTwins, splitVerts, splitEdges, setSplit, withNext, Housed}
+use Rattle.connectivity.specs.InPlace.{trio, outerTwin, innerTwin, firstHalf, secondHalf, splitTwins, splitVerts, splitEdges, setSplit, withNext, Housed}
 use Rattle.connectivity.proofs.Rows.{at-corner, at-across, at-back, at-middle}
 use Rattle.connectivity.proofs.Fill.{Going, splitBy, going-start, going-on, going-before, going-done}
 
@@ -108,9 +107,9 @@ module _ (at n h : ℕ) (first : h % 3 ≡ 0) (l : h + 3 ≤ n) where
   edge-split twin edge e room =
       let long : length (part edge at n) ≡ n = length-part edge at n room in
       split-is n h first l (newEdge (part twin at n) (part edge at n) e)
-      (λ k. 2 * cell edge (at + k) + cond (isAbove (cell twin (at + k)) k) 0 1)
+      (λ k. firstHalf (cell edge (at + k)) (cell twin (at + k)) k)
       (λ k. 2 * e + k)
-      (λ k. 2 * cell edge (at + k) + cond (isAbove (cell twin (at + k)) k) 1 0)
+      (λ k. secondHalf (cell edge (at + k)) (cell twin (at + k)) k)
       (λ k m. rw long (at-corner n _ _ _ _ k m ∙ rw (part-at edge at n k 0 m, part-at twin at n k 0 m)))
       (λ k m. rw long (at-across n _ _ _ _ k m))
       (λ k p m o q. rw long (at-back n _ _ _ _ k m ∙ rw (← q, part-at edge at n p 0 o, part-at twin at n p 0 o)))

@@ -43,6 +43,13 @@ innerTwin t = cond (eqb t marker) marker (3 * t)
 abbrev pub isAbove : ℕ → ℕ → Bool
 isAbove t h = eqb t marker || ltb t h
 
+-- "2·EDGE(h), plus 0 if h > t else 1" and "2·EDGE(h'), plus 1 if h' > t' else 0"
+abbrev pub firstHalf : ℕ → ℕ → ℕ → ℕ
+firstHalf e t h = 2 * e + cond (isAbove t h) 0 1
+
+abbrev pub secondHalf : ℕ → ℕ → ℕ → ℕ
+secondHalf e t h = 2 * e + cond (isAbove t h) 1 0
+
 -- the four triangles that a triangle is split into, in TWIN, VERT and EDGE: from its cells, where h is its first halfedge
 unfoldable pub splitTwins : List ℕ → ℕ → ℕ → Split
 splitTwins twins n h =
@@ -64,11 +71,10 @@ splitVerts verts edges v =
 
 unfoldable pub splitEdges : List ℕ → List ℕ → ℕ → ℕ → Split
 splitEdges edges twins e h =
-    let half : ℕ → ℕ → ℕ → ℕ → ℕ = λ i k a b. 2 * cell edges i + cond (isAbove (cell twins i) k) a b in
     record {
-      first = half 0 h 0 1 ∷ (2 * e + h) ∷ half 2 (h + 2) 1 0 ∷ [];
-      second = half 1 (h + 1) 0 1 ∷ (2 * e + (h + 1)) ∷ half 0 h 1 0 ∷ [];
-      third = half 2 (h + 2) 0 1 ∷ (2 * e + (h + 2)) ∷ half 1 (h + 1) 1 0 ∷ [];
+      first = firstHalf (cell edges 0) (cell twins 0) h ∷ (2 * e + h) ∷ secondHalf (cell edges 2) (cell twins 2) (h + 2) ∷ [];
+      second = firstHalf (cell edges 1) (cell twins 1) (h + 1) ∷ (2 * e + (h + 1)) ∷ secondHalf (cell edges 0) (cell twins 0) h ∷ [];
+      third = firstHalf (cell edges 2) (cell twins 2) (h + 2) ∷ (2 * e + (h + 2)) ∷ secondHalf (cell edges 1) (cell twins 1) (h + 1) ∷ [];
       middle = trio (λ k. 2 * e + k) h;
     }
 

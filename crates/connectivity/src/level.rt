@@ -1,6 +1,5 @@
 // One level to the next, written straight after it in the same tables.
 ghost use mathlib.Core.Path.{_≡_};
-ghost use mathlib.Core.Bool.{cond};
 ghost use mathlib.Core.List.{[], _∷_};
 ghost use Prim.Native.Nat.{_+_, _*_, _<_, _≤_};
 ghost use lib.ListN.{length};
@@ -8,7 +7,7 @@ ghost use Rattle.laws.specs.Parts.{part};
 ghost use Rattle.halfedges.specs.Cage.{cell};
 ghost use Rattle.connectivity.specs.Tables.{tables};
 ghost use Rattle.connectivity.specs.NextLevel.{nextTwins, nextVerts, nextEdges};
-ghost use Rattle.connectivity.specs.InPlace.{trio, setThree, setSplit, splitTwins, splitVerts, splitEdges, outerTwin, innerTwin, isAbove, SmallTwin, SmallTwins, SmallEdges, Housed, Standing, withNext, withNextLevel};
+ghost use Rattle.connectivity.specs.InPlace.{trio, setThree, setSplit, splitTwins, splitVerts, splitEdges, outerTwin, innerTwin, isAbove, firstHalf, secondHalf, SmallTwin, SmallTwins, SmallEdges, Housed, Standing, withNext, withNextLevel};
 use halfedges::table::HalfedgeTable;
 
 // A number of a table as an index.
@@ -28,38 +27,26 @@ pub fn is_above(twin: u32, halfedge: usize) -> bool
     wide(twin) < halfedge
 }
 
-// The twin of 3h, where t is h's: 3·NEXT(t)+2.
-fn outer_twin(twin: u32) -> u32
-    requires { ⌜ SmallTwin twin ⌝ }
-    ensures { λ r. ⌜ r ≡ outerTwin twin ⌝ }
+// The twins of a halfedge's two halves, 3h and 3·NEXT(h)+2, from its own twin t: 3·NEXT(t)+2 and 3·t.
+fn twin_halves(old: u32) -> [u32; 2]
+    requires { ⌜ SmallTwin old ⌝ }
+    ensures { λ r. ⌜ r ≡ (outerTwin old ∷ innerTwin old ∷ []) ⌝ }
 {
-    if twin == HalfedgeTable::NO_TWIN {
-        return HalfedgeTable::NO_TWIN;
+    if old == HalfedgeTable::NO_TWIN {
+        return [HalfedgeTable::NO_TWIN, HalfedgeTable::NO_TWIN];
     }
-    (3 * HalfedgeTable::next(wide(twin)) + 2) as u32
+    [(3 * HalfedgeTable::next(wide(old)) + 2) as u32, 3 * old]
 }
 
-// The twin of 3h+2, where t' is that of the halfedge before h: 3·t'.
-fn inner_twin(twin_previous: u32) -> u32
-    requires { ⌜ SmallTwin «twin_previous» ⌝ }
-    ensures { λ r. ⌜ r ≡ innerTwin «twin_previous» ⌝ }
+// The edges of the same two: the halves of an edge are numbered from the lower of its halfedges.
+fn edge_halves(edge: u32, twin: u32, halfedge: usize) -> [u32; 2]
+    requires { ⌜ edge < 4194304 ⌝ }
+    ensures { λ r. ⌜ r ≡ (firstHalf edge twin halfedge ∷ secondHalf edge twin halfedge ∷ []) ⌝ }
 {
-    if twin_previous == HalfedgeTable::NO_TWIN {
-        return HalfedgeTable::NO_TWIN;
+    if is_above(twin, halfedge) {
+        return [2 * edge, 2 * edge + 1];
     }
-    3 * twin_previous
-}
-
-// One half of an edge: twice its number, and one of two numbers more.
-fn half(edge: u32, above: bool, if_above: u32, if_not: u32) -> u32
-    requires { ⌜ (edge < 4194304) × («if_above» < 2) × («if_not» < 2) ⌝ }
-    ensures { λ r. ⌜ r ≡ 2 * edge + cond above «if_above» «if_not» ⌝ }
-{
-    if above {
-        2 * edge + if_above
-    } else {
-        2 * edge + if_not
-    }
+    [2 * edge + 1, 2 * edge]
 }
 
 // The vertex on an edge: V+EDGE(h).
@@ -101,11 +88,14 @@ fn split_twins(twins: [u32; 3], halfedges: usize, first: usize) -> Split
     requires { ⌜ (halfedges ≤ 4194304) × (first ≤ 4194304) ⌝ }
     ensures { λ r. ⌜ r ≡ splitTwins twins halfedges first ⌝ }
 {
+    let a = twin_halves(twins[0]);
+    let b = twin_halves(twins[1]);
+    let c = twin_halves(twins[2]);
     let across = count_up(3 * halfedges + first, 1);
     Split {
-        first: [outer_twin(twins[0]), across[0], inner_twin(twins[2])],
-        second: [outer_twin(twins[1]), across[1], inner_twin(twins[0])],
-        third: [outer_twin(twins[2]), across[2], inner_twin(twins[1])],
+        first: [a[0], across[0], c[1]],
+        second: [b[0], across[1], a[1]],
+        third: [c[0], across[2], b[1]],
         middle: count_up(3 * first + 1, 3),
     }
 }
@@ -133,14 +123,14 @@ fn split_edges(edges: [u32; 3], twins: [u32; 3], all_edges: usize, first: usize)
     requires { ⌜ («all_edges» ≤ 4194304) × (first ≤ 4194304) ⌝ }
     ensures { λ r. ⌜ r ≡ splitEdges edges twins «all_edges» first ⌝ }
 {
-    let a = is_above(twins[0], first);
-    let b = is_above(twins[1], first + 1);
-    let c = is_above(twins[2], first + 2);
+    let a = edge_halves(edges[0], twins[0], first);
+    let b = edge_halves(edges[1], twins[1], first + 1);
+    let c = edge_halves(edges[2], twins[2], first + 2);
     let across = count_up(2 * all_edges + first, 1);
     Split {
-        first: [half(edges[0], a, 0, 1), across[0], half(edges[2], c, 1, 0)],
-        second: [half(edges[1], b, 0, 1), across[1], half(edges[0], a, 1, 0)],
-        third: [half(edges[2], c, 0, 1), across[2], half(edges[1], b, 1, 0)],
+        first: [a[0], across[0], c[1]],
+        second: [b[0], across[1], a[1]],
+        third: [c[0], across[2], b[1]],
         middle: across,
     }
 }
