@@ -38,7 +38,7 @@ fn twin_halves(old: u32) -> [u32; 2]
     [(3 * HalfedgeTable::next(wide(old)) + 2) as u32, 3 * old]
 }
 
-// The edges of the same two: the halves of an edge are numbered from the lower of its halfedges.
+// The edges of the same two: an edge's halves are numbered along the higher of its halfedges.
 fn edge_halves(edge: u32, twin: u32, halfedge: usize) -> [u32; 2]
     requires { ⌜ edge < 4194304 ⌝ }
     ensures { λ r. ⌜ r ≡ (firstHalf edge twin halfedge ∷ secondHalf edge twin halfedge ∷ []) ⌝ }
