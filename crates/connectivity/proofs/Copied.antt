@@ -1,7 +1,7 @@
 -- A cage copied to the front of the lent tables: it stands there (`cage-there`) and can be refined in place (`copied-refinable`), and
 -- its levels cover it (`levels-over`). Assumes nothing.
 use Prim.Native.Nat.{ℕ, suc, _≤_}
-use mathlib.Core.Path.{_≡_, _∙_}
+use mathlib.Core.Path.{_≡_}
 use mathlib.Core.List.{List}
 use native.Mathlib.Omega.{arith}
 use lib.ListN.{length}

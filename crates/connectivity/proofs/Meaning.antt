@@ -1,7 +1,7 @@
 -- What the rules' tests mean: each of the rules 1 and 3 to 6 is given nowhere exactly when its plain record holds
 -- (`shaped`, `paired`, `placed`, `used`, `numbered`, and `clean-twins`, .. the other way round). Assumes nothing.
 use Prim.Native.Nat.{ℕ, _%_, _<_}
-use mathlib.Core.Path.{_≡_, refl, sym, _∙_}
+use mathlib.Core.Path.{_≡_}
 use mathlib.Core.Logic.{_≢_, _⊎_, inl, inr}
 use mathlib.Core.Bool.{Bool, true, false, not, _&&_, _||_, true≢false}
 use mathlib.Core.List.{List}

@@ -1,17 +1,17 @@
 -- The tests of rules 3, 4 and 6, each outcome by the clauses that lead to it. Assumes nothing.
 use Prim.Native.Nat.{ℕ, _≤_, _<_}
-use mathlib.Core.Path.{_≡_, sym, _∙_}
+use mathlib.Core.Path.{_≡_, sym}
 use mathlib.Core.Logic.{_≢_}
-use mathlib.Core.Bool.{Bool, true, false, not, _||_}
+use mathlib.Core.Bool.{true, false, not}
 use mathlib.Core.List.{List}
 use native.Mathlib.Omega.{arith}
 use lib.Dec.{eqb}
 use lib.ListN.{length}
 use borrow.Author.Tests.{eq-eqb, ne-eqb, le-leb, lt-leb}
-use Rattle.laws.specs.Below.{any, count}
+use Rattle.laws.specs.Below.{count}
 use Rattle.halfedges.specs.Cage.{NEXT, marker, cell}
 use Rattle.connectivity.specs.Tables.{leaves}
-use Rattle.connectivity.specs.Rules.{badTwin, badVertex, stranger, badEdge}
+use Rattle.connectivity.specs.Rules.{badTwin, badVertex, badEdge}
 use Rattle.connectivity.specs.Ruled.{Paired}
 use Rattle.connectivity.proofs.Carriers.{alone-count, paired-count}
 

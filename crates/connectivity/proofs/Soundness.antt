@@ -1,18 +1,15 @@
 -- A sound level's next level is sound (`sound-next`), and so are all levels of a sound cage (`sound-at`). Assumes nothing.
-use Prim.Native.Nat.{ℕ, zero, suc, _+_, _*_, _%_, _≤_, _<_}
+use Prim.Native.Nat.{ℕ, zero, suc, _+_, _*_, _≤_, _<_}
 use mathlib.Core.Path.{_≡_, refl, ap, _∙_}
 use mathlib.Core.Logic.{_≢_}
 use mathlib.Core.Bool.{Bool, true, false, cond}
-use mathlib.Core.List.{List}
 use native.Mathlib.Decide.{ℕ-discrete}
 use native.Mathlib.Omega.{arith}
-use lib.Dec.{eqb}
 use lib.ListN.{length}
 use borrow.Author.Tests.{eq-eqb, ne-eqb}
 use Rattle.halfedges.specs.declared.table.HalfedgeTable.{HalfedgeTable}
-use Rattle.laws.specs.Below.{tabulate}
 use Rattle.laws.proofs.Tabulate.{length-tabulate, getD-tabulate}
-use Rattle.halfedges.specs.Cage.{NEXT, PREV, marker, cell, above}
+use Rattle.halfedges.specs.Cage.{PREV, marker, cell, above}
 use Rattle.halfedges.specs.Counts.{finer, countsAt}
 use Rattle.halfedges.proofs.Triangle.{next-below, prev-below, four-whole}
 use Rattle.connectivity.specs.Tables.{Tables}

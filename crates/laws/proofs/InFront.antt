@@ -6,7 +6,7 @@ use mathlib.Core.List.{List, _++_}
 use native.Mathlib.Nat.{zero-add}
 use native.Mathlib.Numerals.{add-one}
 use native.Mathlib.Omega.{arith}
-use lib.ListN.{length, getD, take, drop, set, length-append}
+use lib.ListN.{length, getD, drop, set}
 use lib.Seq.{paste, paste-suc, take-length, take-append-seam, drop-append-add, drop-drop}
 use Rattle.laws.specs.Parts.{part, inFront}
 

@@ -1,14 +1,14 @@
 -- The tables of all levels, and a table with the cage's points in front, are ready for the points of all levels (`readied`), which
 -- cover the cage's (`covered`). Assumes nothing.
-use Prim.Native.Nat.{ℕ, zero, suc, _*_, _/_, _%_, _≤_, _<_}
-use mathlib.Core.Path.{_≡_, refl, sym, ap, _∙_}
-use mathlib.Core.List.{List, _++_}
+use Prim.Native.Nat.{ℕ, zero, suc, _*_, _≤_}
+use mathlib.Core.Path.{_≡_, sym}
+use mathlib.Core.List.{List}
 use native.Mathlib.Omega.{arith}
 use lib.IntN.{ℤ}
 use lib.ListN.{length, take, drop}
 use lib.Seq.{take-append-seam}
 use Rattle.laws.specs.Below.{endToEnd, sum}
-use Rattle.laws.specs.Parts.{part, inFront}
+use Rattle.laws.specs.Parts.{inFront}
 use Rattle.laws.proofs.Parts.{length-inFront}
 use Rattle.laws.proofs.InFront.{part-inFront, inFront-over}
 use Rattle.laws.proofs.Sums.{sum-grows}
@@ -16,12 +16,11 @@ use Rattle.laws.proofs.Tabulate.{length-tabulate}
 use Rattle.laws.proofs.EndToEnd.{part-of, length-multiples}
 use Rattle.halfedges.specs.declared.table.HalfedgeTable.{HalfedgeTable}
 use Rattle.halfedges.specs.Refusals.{DONE}
-use Rattle.halfedges.specs.Counts.{countsAt, Hs, Vs, roomV}
+use Rattle.halfedges.specs.Counts.{countsAt, Vs, roomV}
 use Rattle.connectivity.specs.Tables.{Tables, tables, countsOf}
 use Rattle.connectivity.specs.NextLevel.{level}
 use Rattle.connectivity.specs.InPlace.{Sound, tablesInFront}
 use Rattle.connectivity.specs.Operations.{levelsEndToEnd}
-use Rattle.connectivity.proofs.Soundness.{sound-at}
 use Rattle.connectivity.proofs.Granted.{Granted, granted}
 use Rattle.points.specs.NextPoints.{nextPoints, levelPoints}
 use Rattle.points.specs.Operations.{vertices, refineVerdict}

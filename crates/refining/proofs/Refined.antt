@@ -8,7 +8,6 @@ use mathlib.Core.List.{List, [], _∷_}
 use native.Mathlib.Omega.{arith}
 use lib.IntN.{ℤ}
 use lib.ListN.{length}
-use lib.Dec.{eqb, ltb}
 use borrow.Author.Tests.{eqb-true, ltb-false, not-false, ne-eqb, lt-ltb, le-ltb}
 use Rattle.laws.specs.Below.{endToEnd}
 use Rattle.laws.specs.Parts.{inFront}

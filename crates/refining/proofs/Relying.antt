@@ -1,5 +1,5 @@
 -- What the point rules rely on holds at every level of an accepted cage: `relied`. Assumes nothing.
-use Prim.Native.Nat.{ℕ, _*_, _≤_, _<_}
+use Prim.Native.Nat.{ℕ, _≤_, _<_}
 use mathlib.Core.Path.{_≡_, sym, _∙_}
 use native.Mathlib.Decide.{decLe, decLt}
 use native.Mathlib.Omega.{arith}
@@ -9,7 +9,7 @@ use Rattle.laws.proofs.Pigeonhole.{some-counted}
 use Rattle.halfedges.specs.declared.table.HalfedgeTable.{HalfedgeTable}
 use Rattle.halfedges.specs.Cage.{marker, most-halfedges, most-depth, F, E}
 use Rattle.halfedges.specs.Refusals.{DONE, first}
-use Rattle.halfedges.specs.Counts.{countsAt, Hs, Es, Vs}
+use Rattle.halfedges.specs.Counts.{countsAt, Vs}
 use Rattle.halfedges.proofs.Questions.{limits-kept}
 use borrow.Author.Tests.{eq-eqb}
 use Rattle.connectivity.specs.Tables.{Tables, countsOf, leaves}
@@ -18,7 +18,7 @@ use Rattle.connectivity.specs.NextLevel.{level}
 use Rattle.connectivity.specs.Operations.{tableChecks}
 use Rattle.connectivity.proofs.Accepted.{whole-meaning}
 use Rattle.connectivity.proofs.EdgeCount.{twice-edges, carried}
-use Rattle.invariance.specs.Invariance.{cornersAt, OnBorder, Added, Invariant}
+use Rattle.invariance.specs.Invariance.{cornersAt, Added, Invariant}
 use Rattle.invariance.proofs.VertexCount.{vertices-at-most, corners-at-most, as-many-borders, one-border-leaves}
 use Rattle.invariance.proofs.Levels.{accepted, within-limits}
 use Rattle.points.specs.NextPoints.{corners}

@@ -1,7 +1,7 @@
 -- A floor by way of a numerator that is raised by some wholes and so not negative: `raised-is`, `raised-small`, `raised-floor`.
 -- What is divided fits where the numerator does: `floor-fits`. Assumes nothing.
 use Prim.Native.Nat.{ℕ, suc, _+_, _-_, _*_, _/_, _≤_, _<_}
-use mathlib.Core.Path.{_≡_, refl, sym, ap, _∙_}
+use mathlib.Core.Path.{_≡_, refl, ap, _∙_}
 use native.Mathlib.Nat.{div-le-self, lt-of-le-of-lt, add-mul-div-right, div-mul-le-self, lt-div-mul-add, div-eq-of-lt-le, div-lt-iff-lt-mul, mul-sub, mul-comm, add-mul, one-mul, suc-mul, mul-le-mul-right}
 use native.Mathlib.Omega.{arith}
 use lib.IntN.{ℤ, pos, negsuc, negℤ, natAbs, subℕ, _+ℤ_, _-ℤ_, +ℤ-comm}

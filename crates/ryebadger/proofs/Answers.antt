@@ -1,14 +1,14 @@
 -- Every answer fits its cells: of the cage check (`check-fits`), the count question (`counts-fit`), refining (`refine-fits`), the
 -- corner question (`corners-fit`), reading (`read-fits`) and writing (`write-fits`). Assumes nothing.
-use Prim.Native.Nat.{ℕ, suc, _+_, _*_, _≤_, _<_}
-use mathlib.Core.Path.{_≡_, refl, ap, _∙_}
+use Prim.Native.Nat.{ℕ, suc, _+_, _≤_, _<_}
+use mathlib.Core.Path.{_≡_, refl}
 use mathlib.Core.Bool.{Bool, true, false, cond}
 use mathlib.Core.List.{List, [], _∷_, _++_}
 use native.Mathlib.Omega.{arith}
 use lib.Dec.{eqb, leb, ltb}
 use borrow.Author.Tests.{eqb-true}
 use lib.IntN.{ℤ}
-use lib.ListN.{length, replicate}
+use lib.ListN.{length}
 use Rattle.laws.specs.Below.{tabulate, sum}
 use Rattle.laws.proofs.Tests.{by-test}
 use Rattle.laws.proofs.Tabulate.{length-tabulate}
@@ -18,11 +18,11 @@ use Rattle.halfedges.specs.declared.table.HalfedgeTable.{HalfedgeTable}
 use Rattle.halfedges.specs.declared.table.Levels.{Levels}
 use Rattle.halfedges.specs.declared.table.Counted.{Counted}
 use Rattle.halfedges.specs.declared.corners.Corners.{Corners}
-use Rattle.halfedges.specs.Cage.{most-halfedges, most-vertices, most-depth, border, above, E, B}
+use Rattle.halfedges.specs.Cage.{most-halfedges, most-depth, border, above, E, B}
 use Rattle.halfedges.specs.Refusals.{Verdict, DONE, SHAPE, LIMIT, TWIN, VERTEX, UNUSED, EDGE, FAN, POINT, ROOM, SHORT, FIELD, EXTRA, told, short, whenDone, first, Said, said}
-use Rattle.halfedges.specs.Counts.{AtMost, countsAt, Hs, Es, Vs, seven, levels, noLevels, roomH, roomV, countShape, aboveLimit, countQuestion, counted}
+use Rattle.halfedges.specs.Counts.{AtMost, countsAt, Hs, Es, Vs, seven, levels, noLevels, countShape, aboveLimit, countQuestion, counted}
 use Rattle.halfedges.specs.Corners.{cornerShape, cornerQuestion, cornered}
-use Rattle.halfedges.proofs.Checks.{first-zero, done-both, done-passes}
+use Rattle.halfedges.proofs.Checks.{first-zero, done-passes}
 use Rattle.halfedges.proofs.Growth.{levels-at-most}
 use Rattle.halfedges.proofs.Questions.{limits-kept, count-shape, count-limit, count-done, within, corner-shape, corner-done}
 use Rattle.connectivity.specs.Tables.{Tables, countsOf}
@@ -35,7 +35,7 @@ use Rattle.cagefile.proofs.Verdict.{opening-kept, read-sound}
 use Rattle.cagefile.proofs.Fits.{file-length}
 use Rattle.cagefile.proofs.Accepted.{write-fits as write-kept}
 use Rattle.ryebadger.specs.Cells.{cells, lengthCells, levelNumbers, levelCells, Fitting, Sevens}
-use Rattle.ryebadger.proofs.Small.{Small, AllSmall, fitting-both, fitting-tabulate, fitting-when, given-small, givenAt-small, first-small, guarded-small, joined-small}
+use Rattle.ryebadger.proofs.Small.{Small, fitting-both, fitting-tabulate, fitting-when, given-small, givenAt-small, first-small, guarded-small, joined-small}
 
 -- a lent table that is short
 short-small : (table needed lent : ℕ) → table < 6 → Small (short table needed lent)

@@ -1,7 +1,7 @@
 -- Where each number of an answer with counts stands (`halfedges-at`, `edges-at`, `vertices-at`, `rooms-at`), and how many they are
 -- (`length-cells`); and that three corners are all (`three`). Assumes nothing.
 use Prim.Native.Nat.{ℕ, _+_, _-_, _≤_, _<_}
-use mathlib.Core.Path.{_≡_, refl, sym, ap, _∙_}
+use mathlib.Core.Path.{_≡_, refl, ap, _∙_}
 use mathlib.Core.List.{List, [], _∷_, _++_}
 use native.Mathlib.Omega.{arith}
 use lib.ListN.{length, getD, length-append, List·getD-append}

@@ -1,6 +1,6 @@
 -- `check_cage` answers its checks, and else the counts.
 use borrow.Author.Needs.{needs}
-use mathlib.Core.Path.{_≡_, _∙_}
+use mathlib.Core.Path.{_∙_}
 use Rattle.points.specs.Operations.{checkCage}
 use Rattle.connectivity.proofs.TableChecks.{check-refused, check-done}
 use Rattle.cage.proofs.check_cage.Statement.{statement}

@@ -1,6 +1,6 @@
 -- `check_for_depth` goes through the points' length, checks 1 to 7, and then the coordinates.
 use borrow.Author.Needs.{needs}
-use mathlib.Core.Path.{_≡_, sym, ap, _∙_}
+use mathlib.Core.Path.{sym, _∙_}
 use Rattle.halfedges.specs.Refusals.{told}
 use Rattle.cage.proofs.CageChecks.{cage-shape, cage-refused, cage-points}
 use Rattle.cage.proofs.check_for_depth.Statement.{statement}

@@ -1,5 +1,4 @@
 -- `out_of_range` looks at each side.
-use lib.Signed.{ltZ}
 use mir.Facts.{toZ-ofZ}
 use Rattle.cage.proofs.CageChecks.{too-low, too-high}
 use Rattle.cage.proofs.out_of_range.Statement.{statement}

@@ -1,6 +1,5 @@
 -- `plan` goes through 1 to 8, the room of the three tables, and that of the points.
 use borrow.Author.Needs.{needs}
-use Prim.Native.Nat.{ℕ}
 use mathlib.Core.Path.{_≡_, ap, _∙_}
 use mathlib.Core.List.{List}
 use native.Mathlib.Omega.{arith}

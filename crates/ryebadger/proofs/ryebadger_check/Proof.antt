@@ -1,6 +1,6 @@
 -- `ryebadger_check` puts the answer of the cage check in cells, which it fits.
 use borrow.Author.Needs.{needs}
-use mathlib.Core.Path.{_≡_, sym, ap, subst, _∙_}
+use mathlib.Core.Path.{sym, ap, subst, _∙_}
 use Rattle.ryebadger.specs.Cells.{cells, Fitting}
 use Rattle.ryebadger.proofs.Answers.{check-fits}
 use Rattle.ryebadger.proofs.ryebadger_check.Statement.{statement}

@@ -1,6 +1,6 @@
 -- `ryebadger_corners` puts the answer of the corner question in cells, which it fits.
 use borrow.Author.Needs.{needs}
-use mathlib.Core.Path.{_≡_, ap, _∙_}
+use mathlib.Core.Path.{ap, _∙_}
 use Rattle.ryebadger.specs.Cells.{cells}
 use Rattle.ryebadger.proofs.Answers.{corners-fit, corners-told}
 use Rattle.ryebadger.proofs.ryebadger_corners.Statement.{statement}

@@ -1,6 +1,6 @@
 -- `ryebadger_counts` puts the answer of the count question in cells, which it fits.
 use borrow.Author.Needs.{needs}
-use mathlib.Core.Path.{_≡_, ap, _∙_}
+use mathlib.Core.Path.{ap, _∙_}
 use Rattle.ryebadger.specs.Cells.{levelCells}
 use Rattle.ryebadger.proofs.Answers.{counts-fit, levels-told}
 use Rattle.ryebadger.proofs.ryebadger_counts.Statement.{statement}

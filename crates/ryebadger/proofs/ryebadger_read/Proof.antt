@@ -1,6 +1,6 @@
 -- `ryebadger_read` puts the answer of reading in cells, which it fits, and leaves what that leaves.
 use borrow.Author.Needs.{needs}
-use mathlib.Core.Path.{_≡_, sym, ap, subst, _∙_}
+use mathlib.Core.Path.{sym, ap, subst, _∙_}
 use Rattle.connectivity.specs.Tables.{tables}
 use Rattle.ryebadger.specs.Cells.{cells, Fitting}
 use Rattle.ryebadger.proofs.Answers.{read-fits}

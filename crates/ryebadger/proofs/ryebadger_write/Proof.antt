@@ -1,6 +1,6 @@
 -- `ryebadger_write` puts the answer of writing in cells, which it fits, and leaves what that leaves.
 use borrow.Author.Needs.{needs}
-use mathlib.Core.Path.{_≡_, sym, ap, subst, _∙_}
+use mathlib.Core.Path.{sym, ap, subst, _∙_}
 use Rattle.ryebadger.specs.Cells.{lengthCells, Fitting}
 use Rattle.ryebadger.proofs.Answers.{write-fits}
 use Rattle.ryebadger.proofs.ryebadger_write.Statement.{statement}

@@ -1,6 +1,5 @@
 -- `refusal` goes through checks 1 to 8, and then the room.
 use borrow.Author.Needs.{needs}
-use mathlib.Core.Path.{_≡_, _∙_}
 use native.Mathlib.Omega.{arith}
 use Rattle.connectivity.specs.Tables.{tables}
 use Rattle.cagefile.proofs.WriteChecks.{write-refused, checked-fits, write-short, write-roomy}

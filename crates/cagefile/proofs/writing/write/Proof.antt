@@ -1,6 +1,6 @@
 -- `write` answers its checks, and else writes the fields.
 use borrow.Author.Needs.{needs}
-use mathlib.Core.Path.{_≡_, ap}
+use mathlib.Core.Path.{ap}
 use Rattle.halfedges.specs.Refusals.{DONE}
 use Rattle.connectivity.specs.Tables.{tables}
 use Rattle.cagefile.proofs.Outcomes.{write-done}

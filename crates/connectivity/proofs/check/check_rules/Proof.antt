@@ -2,7 +2,7 @@
 use mathlib.Core.Path.{_∙_}
 use borrow.Author.Needs.{needs}
 use native.Mathlib.Omega.{arith}
-use Rattle.halfedges.specs.Refusals.{TWIN, VERTEX, UNUSED, EDGE, FAN}
+use Rattle.halfedges.specs.Refusals.{TWIN, VERTEX, UNUSED, FAN}
 use Rattle.halfedges.proofs.Checks.{passed-clean, number-zero, answered, passed-on, given-alone}
 use Rattle.connectivity.specs.Ruled.{Paired, Placed, Used}
 use Rattle.connectivity.specs.Operations.{rules}

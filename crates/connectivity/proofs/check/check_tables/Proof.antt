@@ -1,7 +1,6 @@
 -- `check_tables` answers its checks, and else the counts.
 use borrow.Author.Needs.{needs}
-use mathlib.Core.Path.{_≡_, sym, ap, _∙_}
-use Rattle.halfedges.specs.Refusals.{told}
+use mathlib.Core.Path.{_∙_}
 use Rattle.connectivity.specs.Operations.{checkTables}
 use Rattle.connectivity.proofs.TableChecks.{check-refused, check-done}
 use Rattle.connectivity.proofs.check.check_tables.Statement.{statement}

@@ -1,8 +1,7 @@
 -- `fill` copies the cage and fills in its levels, which cover it.
 use borrow.Author.Needs.{needs}
-use mathlib.Core.Path.{_≡_, _∙_}
+use mathlib.Core.Path.{_∙_}
 use native.Mathlib.Omega.{arith}
-use Rattle.halfedges.specs.Counts.{roomH}
 use Rattle.connectivity.specs.Tables.{tables}
 use Rattle.connectivity.specs.InPlace.{tablesInFront}
 use Rattle.connectivity.proofs.Copied.{cage-fits, copied-refinable, levels-over}

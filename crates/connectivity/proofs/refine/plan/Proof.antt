@@ -1,7 +1,7 @@
 -- `plan` goes through 1 to 7, and then the room.
 use borrow.Author.Needs.{needs}
-use mathlib.Core.Path.{_≡_, ap, _∙_}
-use Rattle.halfedges.specs.Refusals.{told, first}
+use mathlib.Core.Path.{ap, _∙_}
+use Rattle.halfedges.specs.Refusals.{first}
 use Rattle.halfedges.specs.Counts.{levels}
 use Rattle.connectivity.specs.Tables.{tables}
 use Rattle.connectivity.specs.Operations.{shortTables}

@@ -1,6 +1,6 @@
 -- `refine_tables` answers its checks, and else fills in the levels.
 use borrow.Author.Needs.{needs}
-use mathlib.Core.Path.{_≡_, ap, _∙_}
+use mathlib.Core.Path.{ap, _∙_}
 use Rattle.connectivity.proofs.Granted.{all-granted, room-lent, refine-refused, refine-done}
 use Rattle.halfedges.specs.Counts.{countQuestion}
 use Rattle.connectivity.specs.Tables.{tables}

@@ -1,7 +1,6 @@
 -- `bad_twin` goes through the clauses of rule 3 in order.
 use borrow.Author.Needs.{needs}
-use mathlib.Core.Path.{sym, ap, _∙_}
-use Rattle.halfedges.specs.Cage.{cell}
+use mathlib.Core.Path.{sym, _∙_}
 use Rattle.connectivity.proofs.RuleTests.{twin-none, twin-past, twin-itself, twin-back}
 use Rattle.connectivity.proofs.rules.bad_twin.Statement.{statement}
 use Rattle.connectivity.proofs.rules.bad_twin.Tie as tie

@@ -3,7 +3,6 @@ use borrow.Author.Needs.{needs}
 use Prim.Native.Nat.{_-_, _≤_}
 use mathlib.Core.Path.{_≡_, sym, _∙_}
 use native.Mathlib.Omega.{arith}
-use lib.ListN.{length}
 use borrow.Author.Count.{below-none, below-more}
 use Rattle.halfedges.proofs.Checks.{Clean, given-here, clean-done}
 use borrow.Author.Tests.{eq-eqb, ne-eqb}

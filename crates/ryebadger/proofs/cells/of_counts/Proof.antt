@@ -1,11 +1,11 @@
 -- `of_counts` has put the numbers of the places passed in their cells.
 use borrow.Author.Needs.{needs}
-use Prim.Native.Nat.{ℕ, _+_, _-_, _≤_}
-use mathlib.Core.Path.{_≡_, refl, ap, _∙_}
+use Prim.Native.Nat.{ℕ, _-_, _≤_}
+use mathlib.Core.Path.{_≡_, ap, _∙_}
 use mathlib.Core.List.{List, append-nil}
 use native.Mathlib.Omega.{arith}
 use lib.ListN.{length, getD, set, replicate}
-use lib.Seq.{paste, paste-zero, length-paste}
+use lib.Seq.{paste, paste-zero}
 use Rattle.laws.specs.Parts.{inFront}
 use Rattle.laws.proofs.InFront.{copied-more, copied-all}
 use Rattle.halfedges.specs.Counts.{counted as Counts·counted}

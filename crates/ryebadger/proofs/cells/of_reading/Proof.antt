@@ -1,6 +1,5 @@
 -- `of_reading` puts each number of the answer in a cell.
 use borrow.Author.Needs.{needs}
-use mathlib.Core.Path.{_≡_}
 use Rattle.ryebadger.proofs.cells.of_reading.Statement.{statement}
 use Rattle.ryebadger.proofs.cells.of_reading.Tie as tie
 
