@@ -1,4 +1,5 @@
--- How the code writes a level: straight after the one before it, in the same tables.
+-- How the code writes a level: straight after the one before it, in the same tables. Only contracts between functions cite
+-- these; the promises of the public operations, in Operations, do not.
 use Prim.Native.Nat.{ℕ, _+_, _*_, _%_, _≤_, _<_}
 use mathlib.Core.Path.{_≡_}
 use mathlib.Core.Logic.{_≢_}

@@ -40,11 +40,11 @@ line [] = newline ∷ []
 line (w ∷ []) = w ++ (newline ∷ [])
 line (w ∷ v ∷ ws) = w ++ (space ∷ line (v ∷ ws))
 
--- "level, H, E, F, V, B" of level k, with B as bs has it
+-- "level, H, E, F, V, B" of level k, whose B is borders k
 abbrev pub levelLine : Levels → (ℕ → ℕ) → ℕ → List ℕ
-levelLine l bs k =
+levelLine l borders k =
     let H = getD (l .halfedges) k 0 in
-    line (decimal k ∷ decimal H ∷ decimal (getD (l .edges) k 0) ∷ decimal (F H) ∷ decimal (getD (l .vertices) k 0) ∷ decimal (bs k) ∷ [])
+    line (decimal k ∷ decimal H ∷ decimal (getD (l .edges) k 0) ∷ decimal (F H) ∷ decimal (getD (l .vertices) k 0) ∷ decimal (borders k) ∷ [])
 
 -- "then `room`, the sum of H and the sum of V for depth 6"
 abbrev pub roomWord : List ℕ
@@ -55,7 +55,7 @@ roomLine l = line (roomWord ∷ decimal (l .«halfedge_room») ∷ decimal (l .�
 
 -- "prints seven lines .. then `room`"
 unfoldable pub levelLines : Levels → (ℕ → ℕ) → List ℕ
-levelLines l bs = endToEnd 7 (levelLine l bs) ++ roomLine l
+levelLines l borders = endToEnd 7 (levelLine l borders) ++ roomLine l
 
 -- "A refusal prints only one line: `refused`, number, place"
 abbrev pub refusedWord : List ℕ

@@ -21,7 +21,7 @@ levelNumbers l = l .halfedges ++ (l .edges ++ (l .vertices ++ (l .«halfedge_roo
 abbrev pub levelCells : Said Levels → List ℕ
 levelCells s = cells (record { verdict = s .verdict; values = levelNumbers (s .values) })
 
--- each number fits a cell
+-- what follows is asked between functions, and no promise cites it: each number fits a cell
 abbrev pub Fitting : List ℕ → Type 0
 Fitting [] = Unit {0}
 Fitting (n ∷ ns) = (n < 4294967296) × Fitting ns
