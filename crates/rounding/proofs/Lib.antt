@@ -1,2 +1,4 @@
 pub mod Floor
 pub mod Nearest
+pub mod Scaled
+pub mod Shift

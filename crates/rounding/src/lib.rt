@@ -28,3 +28,19 @@ pub fn rounded(numerator: i64, denominator: i64) -> i32
     let whole = floor_division(top, bottom);
     whole as i32
 }
+
+// Rounded over eight, halves going up: half of eight more, and a shift, which rounds down. No number is wider than 32 bits and none is divided, so that a loop can round several at a time.
+pub fn eighth(numerator: i32) -> i32
+    requires { ⌜ natAbs numerator ≤ 2 ^ 30 ⌝ }
+    ensures { λ r. ⌜ r ≡ round numerator 8 ⌝ }
+{
+    (numerator + 4) >> 3
+}
+
+// Rounded over sixteen, in the same way.
+pub fn sixteenth(numerator: i32) -> i32
+    requires { ⌜ natAbs numerator ≤ 2 ^ 30 ⌝ }
+    ensures { λ r. ⌜ r ≡ round numerator 16 ⌝ }
+{
+    (numerator + 8) >> 4
+}
