@@ -1,5 +1,5 @@
 -- Rounding over an even denominator, as code has it: half a denominator more (`half-fits`), and a shift (`shifted`). Assumes nothing.
-use Prim.Native.Nat.{ℕ, _*_, _^_, _≤_, _<_}
+use Prim.Native.Nat.{ℕ, _+_, _*_, _^_, _<_}
 use mathlib.Core.Path.{_≡_, sym, _∙_}
 use native.Mathlib.Omega.{arith}
 use lib.IntN.{ℤ, pos, natAbs, _+ℤ_}
@@ -12,7 +12,7 @@ use Rattle.rounding.specs.Rounding.{round}
 use Rattle.rounding.proofs.Floor.{floor-fits}
 use Rattle.rounding.proofs.Scaled.{round-half}
 
-module _ (d : ℕ) (small : d < 2 ^ 30) (n : ℤ) (l : natAbs n ≤ 2 ^ 30) where
+module _ (d : ℕ) (n : ℤ) (l : natAbs n + d < 2 ^ 31) where
   fits : SFits w32 n
   fits = small-fits w32 n (omega arith)
 
