@@ -22,7 +22,7 @@ use Rattle.invariance.proofs.Refinable.{H}
 use Rattle.invariance.proofs.VertexCount.{vertices-counted}
 use Rattle.invariance.proofs.NextLevel.{Step, step}
 
-vertices-stay : (t : HalfedgeTable) (d : ℕ) → Vs t 0 ≤ Vs t d
+pub vertices-stay : (t : HalfedgeTable) (d : ℕ) → Vs t 0 ≤ Vs t d
 unfolding countsAt
 vertices-stay t zero = omega arith
 vertices-stay t (suc d) = omega (arith, vertices-stay t d)

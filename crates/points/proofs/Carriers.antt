@@ -1,8 +1,8 @@
 -- The lowest halfedge that carries an edge is the one that has no twin or a higher one: `carrier-first`, `first-carrier`; it
--- is in the table and carries the edge, `carrier-below`, `carrier-carries`. Assumes nothing.
+-- is in the table and carries the edge, `carrier-below`, `carrier-carries`. A twin's twin: `twin-twin`. Assumes nothing.
 use Prim.Native.Nat.{ℕ, _≤_, _<_}
-use mathlib.Core.Path.{_≡_, refl, _∙_}
-use mathlib.Core.Logic.{_⊎_, inl, inr}
+use mathlib.Core.Path.{_≡_, refl, sym, _∙_}
+use mathlib.Core.Logic.{_≢_, _⊎_, inl, inr}
 use mathlib.Core.Bool.{true}
 use mathlib.Core.List.{List}
 use native.Mathlib.Decide.{ℕ-discrete}
@@ -44,6 +44,14 @@ module _ (twin edge : List ℕ) (e : ℕ) (carried : Carried twin edge e) where
           let c = carrier-at-most i (cell twin (carrier edge i)) t (carried .twin-same (carrier edge i) lh q ∙ carrier-carries i l) in
           let d = carried .twin-other (carrier edge i) lh q in
           rw (ne-eqb _ marker q) (lt-ltb (carrier edge i) (cell twin (carrier edge i)) (omega (arith, c, d)))
+
+  -- a twin's twin
+  pub twin-twin : (h : ℕ) → h < length twin → cell twin h ≢ marker → cell twin (cell twin h) ≡ h
+  twin-twin h l q = by (carried .own h (cell twin h) (omega (arith, carried .long)) (omega (arith, carried .twin-below h l q, carried .long)) (sym (carried .twin-same h l q)))
+    where
+      by : (h ≡ cell twin h) ⊎ (h ≡ cell twin (cell twin h)) → cell twin (cell twin h) ≡ h
+      by (inl e) = absurd (carried .twin-other h l q (sym e))
+      by (inr e) = sym e
 
   -- and who has none or a higher one is its edge's carrier, where no halfedge's number is the marker
   pub first-carrier : length edge ≤ marker → (h : ℕ) → h < length edge → lowest-carrier twin h ≡ true → carrier edge (cell edge h) ≡ h

@@ -23,7 +23,7 @@ use Rattle.connectivity.specs.Tables.{Tables}
 use Rattle.connectivity.specs.NextLevel.{level}
 use Rattle.connectivity.specs.Operations.{levelsEndToEnd}
 use Rattle.points.specs.NextPoints.{newPoint, nextPoints, levelPoints}
-use Rattle.points.specs.Levels.{pointsAt, nextEnd, withNext, Ready, tablesAt, cageOf, pointLevels, withLevels, ReadyLevels}
+use Rattle.points.specs.Levels.{pointsAt, nextEnd, withNext, Ready, tablesAt, cageOf, cageCorners, pointLevels, withLevels, ReadyLevels}
 use Rattle.points.proofs.Range.{levels-in-range}
 
 -- where the loop stands before level d: its counts, where its halfedges and its points start, and the table so far
@@ -149,22 +149,23 @@ module _ (t : HalfedgeTable) (depth : ℕ) (lent : Tables) (points : List ℤ) (
     small : AtMost (4 ^ most-depth * most-halfedges) (countsAt t d)
     small = levels-at-most most-halfedges most-depth t (ready .counts) d (omega (arith, ready .deep))
 
-    level-ready : Ready (countsAt t d) (level t c d) (3 * sum d (Vs t)) (Q d)
+    level-ready : Ready (cageCorners t lent) (countsAt t d) (level t c d) (3 * sum d (Vs t)) (Q d)
     unfolding countsAt
     level-ready =
         record {
           relied = ready .relied d l;
+          known = ready .known d l;
           short = omega (arith, small);
           in-range = rw (points-are d) (levels-in-range t c (take (3 * t .vertices) points) depth (ready .relied) (ready .in-range) d (omega arith));
           room = rw (table-long d (omega arith)) (omega (arith, room-for (suc (suc d)) (omega arith)));
         }
 
-    asks : (sum d (Hs t) + Hs t d ≤ length (lent .twin)) × (sum d (Hs t) + Hs t d ≤ length (lent .vert)) × (sum d (Hs t) + Hs t d ≤ length (lent .edge)) × Ready (countsAt t d) (tablesAt (countsAt t d) (sum d (Hs t)) lent) (3 * sum d (Vs t)) (Q d)
+    asks : (sum d (Hs t) + Hs t d ≤ length (lent .twin)) × (sum d (Hs t) + Hs t d ≤ length (lent .vert)) × (sum d (Hs t) + Hs t d ≤ length (lent .edge)) × Ready (cageCorners t lent) (countsAt t d) (tablesAt (countsAt t d) (sum d (Hs t)) lent) (3 * sum d (Vs t)) (Q d)
     asks = (parts-within .0, parts-within .1, parts-within .2, rw parts-are level-ready)
 
   -- the loop's turn at level d
   module _ {d start at : ℕ} {counts : HalfedgeTable} {q : List ℤ} (stands : Stands t lent points d counts start at q) (l : d < depth) where
-    pub climb-asks : (start + counts .halfedges ≤ length (lent .twin)) × (start + counts .halfedges ≤ length (lent .vert)) × (start + counts .halfedges ≤ length (lent .edge)) × Ready counts (tablesAt counts start lent) at q
+    pub climb-asks : (start + counts .halfedges ≤ length (lent .twin)) × (start + counts .halfedges ≤ length (lent .vert)) × (start + counts .halfedges ≤ length (lent .edge)) × Ready (cageCorners t lent) counts (tablesAt counts start lent) at q
     climb-asks = rw (stands .is-counts, stands .is-start, stands .is-at, stands .is-table) (asks d l)
 
     pub climb-small : AtMost (4 ^ most-depth * most-halfedges) counts

@@ -3,19 +3,23 @@
 --     creaseSum, creases-are, creases-at-most    the same of the ends of border edges
 --     scan-more                                  one halfedge more
 --     corners-counted, creases-counted           how many there are
-use Prim.Native.Nat.{ℕ, zero, suc, _+_, _*_, _≤_}
+--     tally-lists                                the corners as a tally has them
+use Prim.Native.Nat.{ℕ, zero, suc, _+_, _*_, _≤_, _<_}
 use mathlib.Core.Path.{_≡_, refl, sym, ap, _∙_}
 use mathlib.Core.Bool.{Bool, true, false, cond}
 use mathlib.Core.List.{List, [], _∷_, _++_, map, map-append, map-map}
 use native.Mathlib.Nat.{add-zero, mul-add, mul-one}
 use native.Mathlib.Omega.{arith}
 use lib.IntN.{ℤ, pos, natAbs, _+ℤ_, +ℤ-idl, +ℤ-idr, +ℤ-assoc}
-use lib.ListN.{length, length-append, length-map}
-use Rattle.laws.specs.Below.{count, select}
+use lib.ListN.{length, take, length-append, length-map}
+use lib.Seq.{getD-take, length-take-le, ext-getD}
+use Rattle.laws.specs.Below.{tabulate, count, select}
 use Rattle.laws.proofs.Integers.{natAbs-add}
 use Rattle.laws.proofs.Select.{length-select}
+use Rattle.laws.proofs.Tabulate.{length-tabulate, getD-tabulate}
 use Rattle.halfedges.specs.Cage.{cell}
 use Rattle.connectivity.specs.Tables.{leaves}
+use Rattle.connectivity.specs.Tally.{Tallied}
 use Rattle.points.specs.NextPoints.{coordinate, total, corners, far, spokeEnds, creaseEnds}
 use Rattle.points.specs.Relied.{borderLeaves, borderEnds}
 
@@ -103,3 +107,12 @@ module _ (twin vert : List ℕ) (v : ℕ) where
           scan-at-most (λ h. coordinate points k (cell vert h)) (borderEnds twin vert v) m (λ h. small (cell vert h)) n,
           natAbs-add (leavingSum twin vert points k v n) (endingSum twin vert points k v n),
         )
+
+-- the corners of the first v vertices, listed by a tally
+pub tally-lists : (vert : List ℕ) (v : ℕ) (tally : List ℕ) → v ≤ length tally → Tallied vert (length vert) tally → take v tally ≡ tabulate v (λ u. length (corners vert u))
+tally-lists vert v tally l tallied =
+    let long : length (take v tally) ≡ v = length-take-le v tally l in
+    ext-getD 0 (take v tally) (tabulate v (λ u. length (corners vert u))) (long ∙ sym (length-tabulate v (λ u. length (corners vert u))))
+    (λ i b.
+    let li : i < v = rw long at b in
+    getD-take v tally i 0 li ∙ tallied .each i (omega arith) ∙ sym (corners-counted vert i) ∙ sym (getD-tabulate v (λ u. length (corners vert u)) i 0 li))

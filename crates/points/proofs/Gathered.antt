@@ -1,16 +1,12 @@
--- What the pass over the spokes leaves: `gathered-only`, `gathered-sum`, `gathered-count`; and that no step wraps,
--- `gathered-adds`. Assumes nothing.
+-- What the pass over the spokes leaves: `gathered-only`, `sum-is`; and that no step wraps, `triangle-adds`. Assumes nothing.
 use Prim.Native.Nat.{ℕ, zero, suc, _+_, _*_, _≤_, _<_}
 use mathlib.Core.Path.{_≡_, refl, sym, ap, _∙_}
 use mathlib.Core.Bool.{cond}
 use mathlib.Core.List.{List}
-use native.Mathlib.Decide.{ℕ-discrete}
 use native.Mathlib.Omega.{arith}
-use lib.Dec.{eqb}
 use lib.IntN.{ℤ, pos, natAbs, _+ℤ_, +ℤ-idl, +ℤ-idr, +ℤ-assoc}
 use lib.ListN.{length}
-use lib.Seq.{getD-set-same}
-use borrow.Author.Tests.{eq-eqb, ne-eqb}
+use borrow.Author.Tests.{eq-eqb}
 use Rattle.laws.specs.Below.{count}
 use Rattle.laws.specs.Steps.{steps}
 use Rattle.laws.proofs.Steps.{steps-more, steps-three-on}
@@ -21,64 +17,34 @@ use Rattle.connectivity.specs.Tables.{leaves}
 use Rattle.points.specs.NextPoints.{coordinate, far}
 use Rattle.points.specs.Operations.{most-coordinate}
 use Rattle.points.specs.Relied.{most-corners, Cornered, InRange}
-use Rattle.points.specs.Passes.{value, addPoint, addSpoke, Adds, addTriangle, AddsTriangle, spoke, Cleared}
+use Rattle.points.specs.Passes.{value, Adds, addTriangle, AddsTriangle, spoke, Cleared}
 use Rattle.halfedges.proofs.Triangle.{next-below, next-0, next-1, next-2}
 use Rattle.points.proofs.Ends.{spokeSum, scan-more, spokes-at-most, corners-counted}
 use Rattle.points.proofs.Range.{any-in-range}
-use Rattle.points.proofs.Only.{Only, only-on, only-wider, only-set, only-steps}
+use Rattle.points.proofs.Only.{Only, only-wider, only-steps}
 use Rattle.points.proofs.Added.{Holds, holds-on, addPoint-only, addPoint-sum}
-
-module _ (n a b : ℕ) (l : List ℤ) (room : 7 * n ≤ length l) (la : a < n) where
-  addSpoke-only : Only (3 * n) (7 * n) l (addSpoke n a b l)
-  unfolding addSpoke
-  addSpoke-only =
-      only-on (only-wider (3 * n) (7 * n) (omega arith) (omega arith) (addPoint-only n a b l))
-      (only-wider (3 * n) (7 * n) (omega arith) (omega arith) (only-set (addPoint n a b l) (6 * n + a) (value l (6 * n + a) +ℤ pos 1)))
-
-  addSpoke-sum : (v k : ℕ) → v < n → k < 3 → value (addSpoke n a b l) (3 * n + 3 * v + k) ≡ value l (3 * n + 3 * v + k) +ℤ cond (eqb a v) (coordinate l k b) (pos 0)
-  unfolding addSpoke
-  addSpoke-sum v k lv lk =
-      only-set (addPoint n a b l) (6 * n + a) (value l (6 * n + a) +ℤ pos 1) .other (3 * n + 3 * v + k) (λ p q. omega arith)
-      ∙ addPoint-sum n a b l (omega arith) v k lk
-
-  addSpoke-count : (v : ℕ) → value (addSpoke n a b l) (6 * n + v) ≡ value l (6 * n + v) +ℤ pos (cond (eqb a v) 1 0)
-  unfolding addSpoke
-  addSpoke-count v = by (ℕ-discrete a v)
-    where
-      by : Dec (a ≡ v) → value (addSpoke n a b l) (6 * n + v) ≡ value l (6 * n + v) +ℤ pos (cond (eqb a v) 1 0)
-      by (yes e) = rw (eq-eqb a v e, ← e) (getD-set-same (addPoint n a b l) (6 * n + a) (value l (6 * n + a) +ℤ pos 1) (pos 0) (rw (addPoint-only n a b l .long) (omega arith)))
-      by (no e) =
-          rw (ne-eqb a v e, +ℤ-idr)
-          (only-set (addPoint n a b l) (6 * n + a) (value l (6 * n + a) +ℤ pos 1) .other (6 * n + v) (λ p q. e (omega arith))
-          ∙ addPoint-only n a b l .other (6 * n + v) (λ p q. omega arith))
 
 pub far-below : (vert : List ℕ) (n : ℕ) → Cornered vert n → (h : ℕ) → h < length vert → far vert h < n
 far-below vert n cornered h l = cornered .below (NEXT h) (next-below (cornered .whole) l)
 
-module _ (vert : List ℕ) (n : ℕ) (cornered : Cornered vert n) (l : List ℤ) (room : 7 * n ≤ length l) where
-  pub gathered-only : (i : ℕ) → i ≤ length vert → Only (3 * n) (7 * n) l (steps i (spoke vert n) l)
+module _ (vert : List ℕ) (n : ℕ) (cornered : Cornered vert n) (l : List ℤ) (room : 6 * n ≤ length l) where
+  pub gathered-only : (i : ℕ) → i ≤ length vert → Only (3 * n) (6 * n) l (steps i (spoke vert n) l)
   unfolding spoke
-  gathered-only = only-steps (3 * n) (7 * n) (length vert) (spoke vert n) l (λ h b m e. addSpoke-only n (cell vert h) (far vert h) m (rw e room) (cornered .below h b))
+  gathered-only =
+      only-steps (3 * n) (6 * n) (length vert) (spoke vert n) l
+      (λ h b m e. let below = cornered .below h b in only-wider (3 * n) (6 * n) (omega arith) (omega arith) (addPoint-only n (cell vert h) (far vert h) m))
 
-  room-after : (i : ℕ) → i ≤ length vert → 7 * n ≤ length (steps i (spoke vert n) l)
+  room-after : (i : ℕ) → i ≤ length vert → 6 * n ≤ length (steps i (spoke vert n) l)
   room-after i b = rw (gathered-only i b .long) room
 
-  pub gathered-count : (v i : ℕ) → i ≤ length vert → value (steps i (spoke vert n) l) (6 * n + v) ≡ value l (6 * n + v) +ℤ pos (count i (leaves vert v))
-  unfolding steps spoke
-  gathered-count v zero b = sym (+ℤ-idr _)
-  gathered-count v (suc i) b =
-      addSpoke-count n (cell vert i) (far vert i) (steps i (spoke vert n) l) (room-after i (omega arith)) (cornered .below i b) v
-      ∙ ap (λ z. z +ℤ pos (cond (leaves vert v i) 1 0)) (gathered-count v i (omega arith))
-      ∙ +ℤ-assoc (value l (6 * n + v)) (pos (count i (leaves vert v))) (pos (cond (leaves vert v i) 1 0))
-
   module _ (points : List ℤ) (holds : Holds n points l) where
-    pub gathered-sum : (v k : ℕ) → v < n → k < 3 → (i : ℕ) → i ≤ length vert → value (steps i (spoke vert n) l) (3 * n + 3 * v + k) ≡ value l (3 * n + 3 * v + k) +ℤ spokeSum vert points k v i
+    gathered-sum : (v k : ℕ) → v < n → k < 3 → (i : ℕ) → i ≤ length vert → value (steps i (spoke vert n) l) (3 * n + 3 * v + k) ≡ value l (3 * n + 3 * v + k) +ℤ spokeSum vert points k v i
     unfolding steps spoke
     gathered-sum v k lv lk zero b = sym (+ℤ-idr _)
     gathered-sum v k lv lk (suc i) b =
         let m = steps i (spoke vert n) l in
         let held : coordinate (steps i (spoke vert n) l) k (far vert i) ≡ coordinate points k (far vert i) = holds-on (omega arith) holds (gathered-only i (omega arith)) .same (far vert i) k (far-below vert n cornered i b) lk in
-        addSpoke-sum n (cell vert i) (far vert i) m (room-after i (omega arith)) (cornered .below i b) v k lv lk
+        addPoint-sum n (cell vert i) (far vert i) m (omega (arith, room-after i (omega arith), cornered .below i b)) v k lk
         ∙ ap (λ z. value m (3 * n + 3 * v + k) +ℤ cond (leaves vert v i) z (pos 0)) held
         ∙ ap (λ z. z +ℤ cond (leaves vert v i) (coordinate points k (far vert i)) (pos 0)) (gathered-sum v k lv lk i (omega arith))
         ∙ +ℤ-assoc (value l (3 * n + 3 * v + k)) (spokeSum vert points k v i) (cond (leaves vert v i) (coordinate points k (far vert i)) (pos 0))
@@ -91,29 +57,21 @@ module _ (vert : List ℕ) (n : ℕ) (cornered : Cornered vert n) (l : List ℤ)
           let e : 3 * n + (3 * v + k) ≡ 3 * n + 3 * v + k = omega arith in
           gathered-sum v k lv lk i b ∙ ap (λ z. z +ℤ spokeSum vert points k v i) (rw e at (cleared (3 * v + k) (omega arith))) ∙ +ℤ-idl _
 
-      pub count-is : (v : ℕ) → v < n → (i : ℕ) → i ≤ length vert → value (steps i (spoke vert n) l) (6 * n + v) ≡ pos (count i (leaves vert v))
-      count-is v lv i b =
-          let e : 3 * n + (3 * n + v) ≡ 6 * n + v = omega arith in
-          gathered-count v i b ∙ ap (λ z. z +ℤ pos (count i (leaves vert v))) (rw e at (cleared (3 * n + v) (omega arith))) ∙ +ℤ-idl _
-
-      pub gathered-adds : (i : ℕ) → i < length vert → Adds n (cell vert i) (far vert i) (steps i (spoke vert n) l) × (natAbs (value (steps i (spoke vert n) l) (6 * n + cell vert i)) < most-corners)
+      gathered-adds : (i : ℕ) → i < length vert → Adds n (cell vert i) (far vert i) (steps i (spoke vert n) l)
       gathered-adds i b =
-          let a = cell vert i in
           let la : cell vert i < n = cornered .below i b in
           let lb : far vert i < n = far-below vert n cornered i b in
           let le : i ≤ length vert = omega arith in
-          let c : count i (leaves vert (cell vert i)) + 1 ≤ most-corners = one-more in (
-            record {
-              in-a = la;
-              in-b = lb;
-              room = room-after i le;
-              fits = λ k lk.
-                  let s = spokes-at-most vert (cell vert i) points k most-coordinate (λ u. any-in-range points range (3 * u + k)) i in
-                  rw (sum-is (cell vert i) k la lk i le, holds-on (omega arith) holds (gathered-only i le) .same (far vert i) k lb lk)
-                  (omega (arith, any-in-range points range (3 * far vert i + k)));
-            },
-            rw (count-is (cell vert i) la i le) (omega arith),
-          )
+          let c : count i (leaves vert (cell vert i)) + 1 ≤ most-corners = one-more in
+          record {
+            in-a = la;
+            in-b = lb;
+            room = room-after i le;
+            fits = λ k lk.
+                let s = spokes-at-most vert (cell vert i) points k most-coordinate (λ u. any-in-range points range (3 * u + k)) i in
+                rw (sum-is (cell vert i) k la lk i le, holds-on (omega arith) holds (gathered-only i le) .same (far vert i) k lb lk)
+                (omega (arith, any-in-range points range (3 * far vert i + k)));
+          }
         where
           one-more : count i (leaves vert (cell vert i)) + 1 ≤ most-corners
           one-more =

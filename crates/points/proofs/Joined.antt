@@ -1,136 +1,189 @@
--- What the pass over the border leaves: `joined-only`, `joined-sum`; and that no step wraps, `joined-adds`. Assumes nothing.
-use Prim.Native.Nat.{ℕ, zero, suc, _+_, _*_, _^_, _≤_, _<_}
-use mathlib.Core.Path.{_≡_, refl, sym, ap, _∙_}
+-- What the pass over the edges leaves in the vertices' cells: of each vertex the stage that its border neighbours so far have
+-- taken it to, `joined-is`. Assumes nothing.
+use Prim.Native.Nat.{ℕ, zero, suc, _+_, _*_, _≤_, _<_}
+use mathlib.Core.Path.{_≡_, refl, sym, ap, ap₂, _∙_}
+use mathlib.Core.Logic.{_≢_}
 use mathlib.Core.Bool.{Bool, true, false, cond, _&&_}
 use mathlib.Core.List.{List}
+use native.Mathlib.Decide.{ℕ-discrete, decLt}
+use native.Mathlib.Nat.{add-zero}
 use native.Mathlib.Omega.{arith}
 use lib.Dec.{eqb}
 use lib.IntN.{ℤ, pos, natAbs, _+ℤ_, +ℤ-idr, +ℤ-assoc}
 use lib.ListN.{length}
+use borrow.Author.Tests.{eq-eqb, ne-eqb}
+use Rattle.laws.specs.Below.{count}
 use Rattle.laws.specs.Steps.{steps}
-use Rattle.laws.proofs.Cases.{cond-keeps}
 use Rattle.laws.proofs.Integers.{natAbs-add, add-swap}
 use Rattle.laws.proofs.Select.{count-grows}
-use Rattle.halfedges.specs.Cage.{cell, border}
+use Rattle.halfedges.specs.Cage.{PREV, marker, cell, border}
 use Rattle.connectivity.specs.Tables.{leaves}
+use Rattle.points.specs.PointRules.{E1}
 use Rattle.points.specs.NextPoints.{coordinate, far}
 use Rattle.points.specs.Operations.{most-coordinate}
-use Rattle.points.specs.Relied.{most-corners, Cornered, Bordered, borderLeaves, borderEnds, InRange}
-use Rattle.points.specs.Passes.{value, addPoint, Adds, addEnds, AddsEnds, addBorder, Summed}
-use Rattle.points.proofs.Range.{any-in-range}
+use Rattle.points.specs.Relied.{Bordered, borderLeaves, borderEnds, Carried, InRange}
+use Rattle.points.specs.Passes.{value, put, pointOf, started, finished, met, meet, borderEdge, startEdge, finishEdge, Edged, putEdge}
 use Rattle.points.proofs.Ends.{leavingSum, endingSum, creaseSum, scan-more, creases-at-most}
-use Rattle.points.proofs.Only.{Only, only-none, only-on, only-wider, only-steps, value-cond}
-use Rattle.points.proofs.Added.{Holds, holds-on, addPoint-only, addPoint-sum}
+use Rattle.points.proofs.Range.{any-in-range}
+use Rattle.points.proofs.Only.{put-only, put-hit}
+use Rattle.points.proofs.Added.{Holds}
 use Rattle.points.proofs.Gathered.{far-below}
+use Rattle.points.proofs.Meeting.{stage, meets}
+use Rattle.points.proofs.Writes.{pointOf-is, meet-only, finish-put, border-put, start-put}
+use Rattle.points.proofs.Written.{written-only}
 
-module _ (n a b : ℕ) (l : List ℤ) (room : 7 * n ≤ length l) (la : a < n) (lb : b < n) where
-  addEnds-only : Only (3 * n) (6 * n) l (addEnds n a b l)
-  unfolding addEnds
-  addEnds-only =
-      only-on (only-wider (3 * n) (6 * n) (omega arith) (omega arith) (addPoint-only n a b l))
-      (only-wider (3 * n) (6 * n) (omega arith) (omega arith) (addPoint-only n b a (addPoint n a b l)))
+module _ (n a : ℕ) (p q l : List ℤ) (room : 3 * n + 3 * a + 2 < length l) where
+  meet-is : (v k : ℕ) → k < 3 → value (meet n a p q l) (3 * n + 3 * v + k) ≡ cond (eqb a v) (met (value l (3 * n + 3 * v + k)) (value p k) (value q k)) (value l (3 * n + 3 * v + k))
+  unfolding meet
+  meet-is v k lk = by (ℕ-discrete a v)
+    where
+      by : Dec (a ≡ v) → value (meet n a p q l) (3 * n + 3 * v + k) ≡ cond (eqb a v) (met (value l (3 * n + 3 * v + k)) (value p k) (value q k)) (value l (3 * n + 3 * v + k))
+      by (yes e) = rw (eq-eqb a v e, ← e) (put-hit (3 * n + 3 * a) (λ k. met (value l (3 * n + 3 * a + k)) (value p k) (value q k)) l room k lk)
+      by (no e) = rw (ne-eqb a v e) (meet-only n a p q l .other (3 * n + 3 * v + k) (λ x y. e (omega arith)))
 
-  addEnds-sum : (v k : ℕ) → v < n → k < 3 → value (addEnds n a b l) (3 * n + 3 * v + k) ≡ value l (3 * n + 3 * v + k) +ℤ (cond (eqb a v) (coordinate l k b) (pos 0) +ℤ cond (eqb b v) (coordinate l k a) (pos 0))
-  unfolding addEnds
-  addEnds-sum v k lv lk =
-      let m = addPoint n a b l in
-      addPoint-sum n b a m (rw (addPoint-only n a b l .long) (omega arith)) v k lk
-      ∙ ap (λ z. value m (3 * n + 3 * v + k) +ℤ cond (eqb b v) z (pos 0)) (addPoint-only n a b l .other (3 * a + k) (λ p q. omega arith))
-      ∙ ap (λ z. z +ℤ cond (eqb b v) (coordinate l k a) (pos 0)) (addPoint-sum n a b l (omega arith) v k lk)
-      ∙ +ℤ-assoc (value l (3 * n + 3 * v + k)) (cond (eqb a v) (coordinate l k b) (pos 0)) (cond (eqb b v) (coordinate l k a) (pos 0))
+-- what stands where a vertex is v speaks of v
+at-vertex : (a v : ℕ) (f : ℕ → ℤ) (w : ℤ) → cond (eqb a v) (f a) w ≡ cond (eqb a v) (f v) w
+at-vertex a v f w = by (ℕ-discrete a v)
+  where
+    by : Dec (a ≡ v) → cond (eqb a v) (f a) w ≡ cond (eqb a v) (f v) w
+    by (yes e) = rw e
+    by (no e) = rw (ne-eqb a v e)
 
--- what is added at a border halfedge, and at no other
-at-border : (z x y : ℤ) (b d e : Bool) → cond b (z +ℤ (cond d x (pos 0) +ℤ cond e y (pos 0))) z ≡ z +ℤ (cond (b && d) x (pos 0) +ℤ cond (b && e) y (pos 0))
-at-border z x y true d e = refl
-at-border z x y false d e = sym (+ℤ-idr z)
+module _ (twin vert edge : List ℕ) (n : ℕ) (points l : List ℤ) (edged : Edged twin vert edge n l) (holds : Holds n points l) (e : ℕ) (carried : Carried twin edge e) (room : 6 * n + 3 * e ≤ length l) where
+  -- the table after i halfedges
+  abbrev after : ℕ → List ℤ
+  after i = steps i (putEdge twin vert edge n l) l
 
-module _ (twin vert : List ℕ) (n : ℕ) (cornered : Cornered vert n) (l : List ℤ) (room : 7 * n ≤ length l) where
-  pub joined-only : (i : ℕ) → i ≤ length vert → Only (3 * n) (6 * n) l (steps i (addBorder twin vert n) l)
-  unfolding addBorder
-  joined-only =
-      only-steps (3 * n) (6 * n) (length vert) (addBorder twin vert n) l
-      (λ h b m e. cond-keeps (Only (3 * n) (6 * n) m) (border twin h) (λ _. addEnds-only n (cell vert h) (far vert h) m (rw e room) (cornered .below h b) (far-below vert n cornered h b)) (λ _. only-none _ _ m))
+  module _ (v k : ℕ) (lv : v < n) (lk : k < 3) where
+    abbrev at : ℕ
+    at = 3 * n + 3 * v + k
 
-  module _ (points : List ℤ) (holds : Holds n points l) where
-    held : (i : ℕ) → i ≤ length vert → Holds n points (steps i (addBorder twin vert n) l)
-    held i b = holds-on (omega arith) holds (joined-only i b)
+    abbrev x : ℤ
+    x = coordinate points k v
 
-    pub joined-sum : (v k : ℕ) → v < n → k < 3 → (i : ℕ) → i ≤ length vert → value (steps i (addBorder twin vert n) l) (3 * n + 3 * v + k) ≡ value l (3 * n + 3 * v + k) +ℤ creaseSum twin vert points k v i
-    unfolding steps addBorder
-    joined-sum v k lv lk zero b = sym (+ℤ-idr _)
-    joined-sum v k lv lk (suc i) b =
-        let m = steps i (addBorder twin vert n) l in
-        let c = 3 * n + 3 * v + k in
-        let x = coordinate points k (far vert i) in
-        let y = coordinate points k (cell vert i) in
-        let L = leavingSum twin vert points k v in
-        let E = endingSum twin vert points k v in
-        let dl = cond (borderLeaves twin vert v i) x (pos 0) in
-        let de = cond (borderEnds twin vert v i) y (pos 0) in
-        value-cond (border twin i) (addEnds n (cell vert i) (far vert i) m) m c
-        ∙ ap (λ z. cond (border twin i) z (value m c)) (addEnds-sum n (cell vert i) (far vert i) m (rw (joined-only i (omega arith) .long) room) (cornered .below i b) (far-below vert n cornered i b) v k lv lk)
-        ∙ ap (λ z. cond (border twin i) (value m c +ℤ (cond (leaves vert v i) z (pos 0) +ℤ cond (eqb (far vert i) v) (coordinate m k (cell vert i)) (pos 0))) (value m c)) (held i (omega arith) .same (far vert i) k (far-below vert n cornered i b) lk)
-        ∙ ap (λ z. cond (border twin i) (value m c +ℤ (cond (leaves vert v i) x (pos 0) +ℤ cond (eqb (far vert i) v) z (pos 0))) (value m c)) (held i (omega arith) .same (cell vert i) k (cornered .below i b) lk)
-        ∙ at-border (value m c) x y (border twin i) (leaves vert v i) (eqb (far vert i) v)
-        ∙ ap (λ z. z +ℤ (dl +ℤ de)) (joined-sum v k lv lk i (omega arith))
-        ∙ +ℤ-assoc (value l c) (creaseSum twin vert points k v i) (dl +ℤ de)
-        ∙ ap (λ z. value l c +ℤ z) (add-swap (L i) (E i) dl de)
-        ∙ ap (λ z. value l c +ℤ (z +ℤ (E i +ℤ de))) (sym (scan-more (λ h. coordinate points k (far vert h)) (borderLeaves twin vert v) i))
-        ∙ ap (λ z. value l c +ℤ (L (suc i) +ℤ z)) (sym (scan-more (λ h. coordinate points k (cell vert h)) (borderEnds twin vert v) i))
+    module _ (h : ℕ) (b : h < length vert) (m : List ℤ) (long : length m ≡ length l) where
+      abbrev p : List ℤ
+      p = pointOf l (cell vert h)
 
-    module _ (range : InRange points) (bordered : Bordered twin vert n) (summed : Summed n l) where
-      small : (k u : ℕ) → natAbs (coordinate points k u) ≤ most-coordinate
-      small k u = any-in-range points range (3 * u + k)
+      abbrev q : List ℤ
+      q = pointOf l (far vert h)
 
-      -- at most one border halfedge leaves a vertex and one ends there, so two points are added at most
-      sum-small : (v k : ℕ) → v < n → k < 3 → (i : ℕ) → i ≤ length vert → natAbs (value (steps i (addBorder twin vert n) l) (3 * n + 3 * v + k)) ≤ most-coordinate * (most-corners + 2)
-      sum-small v k lv lk i b =
-          rw (joined-sum v k lv lk i b)
-          (omega (
-            arith,
-            summed v k lv lk,
-            natAbs-add (value l (3 * n + 3 * v + k)) (creaseSum twin vert points k v i),
-            creases-at-most twin vert v points k most-coordinate (small k) i,
-            bordered .one v lv,
-            bordered .pair v lv,
-            count-grows (borderLeaves twin vert v) i (length vert) b,
-            count-grows (borderEnds twin vert v) i (length vert) b,
-          ))
+      abbrev r : List ℤ
+      r = pointOf l (cell vert (PREV h))
 
-      pub joined-adds : (i : ℕ) → i < length vert → AddsEnds n (cell vert i) (far vert i) (steps i (addBorder twin vert n) l)
-      joined-adds i b = (first, second)
+      -- an inner halfedge leaves the vertices alone
+      inner-keeps : cell twin h ≢ marker → value (putEdge twin vert edge n l h m) at ≡ value m at
+      unfolding finishEdge startEdge
+      inner-keeps u = by (decLt (cell twin h) h)
+        where
+          by : Dec (cell twin h < h) → value (putEdge twin vert edge n l h m) at ≡ value m at
+          by (yes t) =
+              ap (λ y. value y at) (finish-put twin vert edge n l h m t)
+              ∙ put-only (6 * n + 3 * cell edge h) (λ k. finished (value m (6 * n + 3 * cell edge h + k)) (value r k)) m .other at (λ x y. omega arith)
+          by (no t) =
+              ap (λ y. value y at) (start-put twin vert edge n l h m (omega (arith, t)) u)
+              ∙ put-only (6 * n + 3 * cell edge h) (λ k. started (value p k) (value q k) (value r k)) m .other at (λ x y. omega arith)
+
+      -- a border halfedge has its ends meet
+      abbrev once : ℤ → ℤ
+      once now = cond (leaves vert v h) (met now x (coordinate points k (far vert h))) now
+
+      abbrev twice : ℤ → ℤ
+      twice now = cond (eqb (far vert h) v) (met now x (coordinate points k (cell vert h))) now
+
+      from-is : value p k ≡ coordinate points k (cell vert h)
+      from-is = pointOf-is l (cell vert h) k lk ∙ holds .same (cell vert h) k (edged .cornered .below h b) lk
+
+      end-is : value q k ≡ coordinate points k (far vert h)
+      end-is = pointOf-is l (far vert h) k lk ∙ holds .same (far vert h) k (far-below vert n (edged .cornered) h b) lk
+
+      ends-meet : cell twin h ≡ marker → value (putEdge twin vert edge n l h m) at ≡ twice (once (value m at))
+      unfolding borderEdge
+      ends-meet t =
+          let la = edged .cornered .below h b in
+          let lb = far-below vert n (edged .cornered) h b in
+          let mid = put (6 * n + 3 * cell edge h) (λ k. E1 (value p k) (value q k)) m in
+          let only = put-only (6 * n + 3 * cell edge h) (λ k. E1 (value p k) (value q k)) m in
+          let fits : 6 * n ≤ length mid = rw (only .long, long) (omega arith) in
+          let met-a = meet n (cell vert h) p q mid in
+          let second : value (meet n (far vert h) q p met-a) at ≡ cond (eqb (far vert h) v) (met (value met-a at) (value q k) (value p k)) (value met-a at) =
+          meet-is n (far vert h) q p met-a (rw (meet-only n (cell vert h) p q mid .long) (omega (arith, fits, lb))) v k lk in
+          let first : value met-a at ≡ cond (leaves vert v h) (met (value mid at) (value p k) (value q k)) (value mid at) = meet-is n (cell vert h) p q mid (omega (arith, fits, la)) v k lk in
+          ap (λ y. value y at) (border-put twin vert edge n l h m (omega (arith, edged .short)) t)
+          ∙ second
+          ∙ rw (end-is, from-is) (at-vertex (far vert h) v (λ u. met (value met-a at) (coordinate points k u) (coordinate points k (cell vert h))) (value met-a at))
+          ∙ ap twice
+          (first
+          ∙ rw (from-is, end-is) (at-vertex (cell vert h) v (λ u. met (value mid at) (coordinate points k u) (coordinate points k (far vert h))) (value mid at))
+          ∙ ap once (only .other at (λ x y. omega arith)))
+
+    -- how many border neighbours v has met after i halfedges
+    abbrev had : ℕ → ℕ
+    had i = count i (borderLeaves twin vert v) + count i (borderEnds twin vert v)
+
+    module _ (range : InRange points) (bordered : Bordered twin vert n) (place : natAbs (value l at) ≤ most-coordinate) where
+      small : (u : ℕ) → natAbs (coordinate points k u) ≤ most-coordinate
+      small u = any-in-range points range (3 * u + k)
+
+      had-few : (i : ℕ) → i ≤ length vert → had i ≤ 2
+      had-few i b =
+          omega (arith, bordered .one v lv, bordered .pair v lv, count-grows (borderLeaves twin vert v) i (length vert) b, count-grows (borderEnds twin vert v) i (length vert) b)
+
+      pub joined-is : (i : ℕ) → i ≤ length vert → value (after i) at ≡ stage (had i) (value l at) x (creaseSum twin vert points k v i)
+      unfolding steps
+      joined-is zero b = refl
+      joined-is (suc i) b = by (ℕ-discrete (cell twin i) marker) (joined-is i (omega arith))
         where
           m : List ℤ
-          m = steps i (addBorder twin vert n) l
+          m = after i
 
-          le : i ≤ length vert
-          le = omega arith
+          long : length (after i) ≡ length l
+          long = written-only twin vert edge n points l edged holds e carried room i (omega arith) .long
 
-          la : cell vert i < n
-          la = cornered .below i b
+          A : Bool
+          A = leaves vert v i
 
-          lb : far vert i < n
-          lb = far-below vert n cornered i b
+          F : Bool
+          F = eqb (far vert i) v
 
-          wide : 7 * n ≤ length m
-          wide = rw (joined-only i le .long) room
+          xb : ℤ
+          xb = coordinate points k (far vert i)
 
-          at-point : (u k : ℕ) → u < n → k < 3 → natAbs (coordinate m k u) ≤ most-coordinate
-          at-point u k lu lk = rw (held i le .same u k lu lk) (small k u)
+          xa : ℤ
+          xa = coordinate points k (cell vert i)
 
-          first : Adds n (cell vert i) (far vert i) m
-          first = record { in-a = la; in-b = lb; room = wide; fits = λ k lk. omega (arith, sum-small (cell vert i) k la lk i le, at-point (far vert i) k lb lk) }
+          L : ℕ → ℤ
+          L = leavingSum twin vert points k v
 
-          second : Adds n (far vert i) (cell vert i) (addPoint n (cell vert i) (far vert i) m)
-          second =
-              let only = addPoint-only n (cell vert i) (far vert i) m in
-              record {
-                in-a = lb;
-                in-b = la;
-                room = rw (only .long) wide;
-                fits = λ k lk.
-                    rw (addPoint-sum n (cell vert i) (far vert i) m (omega (arith, wide, la)) (far vert i) k lk, only .other (3 * cell vert i + k) (λ p q. omega (arith, la)))
-                    (cond-keeps (λ z. natAbs (value m (3 * n + 3 * far vert i + k) +ℤ z) + natAbs (coordinate m k (cell vert i)) < 2 ^ 31) (eqb (cell vert i) (far vert i))
-                    (λ _. omega (arith, natAbs-add (value m (3 * n + 3 * far vert i + k)) (coordinate m k (far vert i)), sum-small (far vert i) k lb lk i le, at-point (far vert i) k lb lk, at-point (cell vert i) k la lk))
-                    (λ _. omega (arith, natAbs-add (value m (3 * n + 3 * far vert i + k)) (pos 0), sum-small (far vert i) k lb lk i le, at-point (cell vert i) k la lk)));
-              }
+          E : ℕ → ℤ
+          E = endingSum twin vert points k v
+
+          s : ℤ
+          s = creaseSum twin vert points k v i
+
+          s-small : natAbs (creaseSum twin vert points k v i) ≤ most-coordinate * had i
+          s-small = omega (arith, creases-at-most twin vert v points k most-coordinate small i)
+
+          by : Dec (cell twin i ≡ marker) → value (after i) at ≡ stage (had i) (value l at) x (creaseSum twin vert points k v i) → value (after (suc i)) at ≡ stage (had (suc i)) (value l at) x (creaseSum twin vert points k v (suc i))
+          by (no t) ih =
+              inner-keeps i b (after i) long t ∙ ih
+              ∙ rw (scan-more (λ h. coordinate points k (far vert h)) (borderLeaves twin vert v) i, scan-more (λ h. coordinate points k (cell vert h)) (borderEnds twin vert v) i, ne-eqb _ marker t, add-zero, add-zero, +ℤ-idr, +ℤ-idr)
+          by (yes t) ih =
+              let few : had i + cond A 1 0 + cond F 1 0 ≤ 2 = omega (arith, rw (eq-eqb _ marker t) at (had-few (suc i) b)) in
+              ends-meet i b (after i) long t
+              ∙ ap (λ z. twice i b (after i) long (once i b (after i) long z)) ih
+              ∙ ap (twice i b (after i) long) (meets (value l at) x place (small v) (had i) s xb A (omega arith) s-small)
+              ∙ meets (value l at) x place (small v) (had i + cond A 1 0) (s +ℤ cond A xb (pos 0)) xa F few (one-more A)
+              ∙ ap₂ (λ i s. stage i (value l at) x s) counts sums
+            where
+              one-more : (A : Bool) → natAbs (s +ℤ cond A xb (pos 0)) ≤ most-coordinate * (had i + cond A 1 0)
+              one-more true = omega (arith, s-small, natAbs-add s xb, small (far vert i))
+              one-more false = rw (+ℤ-idr, add-zero) s-small
+
+              counts : had i + cond A 1 0 + cond F 1 0 ≡ had (suc i)
+              counts = rw (eq-eqb _ marker t) (omega arith)
+
+              sums : s +ℤ cond A xb (pos 0) +ℤ cond F xa (pos 0) ≡ creaseSum twin vert points k v (suc i)
+              sums =
+                  rw (scan-more (λ h. coordinate points k (far vert h)) (borderLeaves twin vert v) i, scan-more (λ h. coordinate points k (cell vert h)) (borderEnds twin vert v) i, eq-eqb _ marker t)
+                  (+ℤ-assoc s (cond A xb (pos 0)) (cond F xa (pos 0)) ∙ add-swap (L i) (E i) (cond A xb (pos 0)) (cond F xa (pos 0)))

@@ -5,11 +5,12 @@ pub mod Range
 pub mod Added
 pub mod Gathered
 pub mod Cleared
-pub mod Joined
 pub mod Settled
+pub mod Meeting
 pub mod Carriers
 pub mod Writes
 pub mod Written
+pub mod Joined
 pub mod Passed
 pub mod Lent
 pub mod Climbed

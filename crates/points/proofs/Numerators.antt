@@ -1,14 +1,22 @@
 -- How large the point rules' numerators are, of coordinates of at most m (`E1-numerator` and so on), and so that a rule's
--- result is at most m too (`E1-at-most` and so on); V.3's numerator is 5n·v+3s (`V3-is`). Assumes nothing.
-use Prim.Native.Nat.{ℕ, _-_, _*_, _≤_, _<_}
-use mathlib.Core.Path.{_≡_, ap, _∙_}
+-- result is at most m too (`E1-at-most` and so on); V.3's numerator is 5n·v+3s (`V3-is`), and (10v+s)/16 with six corners
+-- (`V3-six`). Assumes nothing.
+use Prim.Native.Nat.{ℕ, suc, _+_, _-_, _*_, _^_, _≤_, _<_}
+use mathlib.Core.Path.{_≡_, sym, ap, _∙_, subst}
+use mathlib.Core.Bool.{false}
+use native.Mathlib.Decide.{decLe}
 use native.Mathlib.Nat.{mul-comm, mul-assoc, mul-le-mul-left}
 use native.Mathlib.Omega.{arith}
-use lib.IntN.{ℤ, pos, natAbs, _+ℤ_, _*ℤ_}
-use Rattle.laws.proofs.Integers.{natAbs-add, natAbs-mul}
+use lib.Dec.{T}
+use lib.IntN.{ℤ, pos, negsuc, negℤ, natAbs, _+ℤ_, _-ℤ_, _*ℤ_}
+use lib.Signed.{mag, leZ}
+use Rattle.laws.proofs.Integers.{natAbs-add, natAbs-mul, subℕ-pos, subℕ-neg}
 use Rattle.rounding.specs.Rounding.{round}
 use Rattle.rounding.proofs.Nearest.{round-at-most}
+use Rattle.rounding.proofs.Scaled.{scaled-sum, round-scaled}
 use Rattle.points.specs.PointRules.{E1, E2, V2, V3}
+use Rattle.points.specs.Operations.{most-coordinate}
+use Rattle.points.specs.Passes.{started, mark}
 
 pub V3-is : (n : ℕ) (v s : ℤ) → V3 n v s ≡ round (pos (5 * n) *ℤ v +ℤ pos 3 *ℤ s) (8 * n)
 unfolding V3
@@ -16,20 +24,44 @@ V3-is n v s =
     let e : 8 * n - n * 3 ≡ 5 * n = omega arith in
     rw e
 
+thirty : (v : ℤ) → pos 3 *ℤ (pos 10 *ℤ v) ≡ pos 30 *ℤ v
+thirty (pos n) = ap pos (omega arith)
+thirty (negsuc n) =
+    let e : 10 * suc n ≡ suc (10 * n + 9) = omega arith in
+    let f : 3 * suc (10 * n + 9) ≡ 30 * suc n = omega arith in
+    rw e (ap (λ k. negℤ (pos k)) f)
+
+pub V3-six : (v s : ℤ) → V3 6 v s ≡ round (pos 10 *ℤ v +ℤ s) 16
+V3-six v s =
+    V3-is 6 v s
+    ∙ ap (λ z. round z 48) (ap (λ z. z +ℤ pos 3 *ℤ s) (sym (thirty v)) ∙ sym (scaled-sum 3 (pos 10 *ℤ v) s))
+    ∙ round-scaled 3 (omega arith) (pos 10 *ℤ v +ℤ s) 16
+
+-- what is no place has the mark, which leaves room for more
+pub unmarked-at-most : (z : ℤ) → mag z < 2 ^ 31 → leZ z (pos most-coordinate) ≡ false → natAbs (z -ℤ pos mark) ≤ mark
+unmarked-at-most (negsuc n) l e = absurd (subst T e tt)
+unmarked-at-most (pos n) l e = by (decLe mark n)
+  where
+    by : Dec (mark ≤ n) → natAbs (pos n -ℤ pos mark) ≤ mark
+    by (yes m) = rw (subℕ-pos n mark m) (omega arith)
+    by (no m) = rw (subℕ-neg n mark (omega (arith, m))) (omega (arith, m))
+
 module _ (m : ℕ) where
   pub E1-numerator : (a b : ℤ) → natAbs a ≤ m → natAbs b ≤ m → natAbs (a +ℤ b) ≤ m * 2
   E1-numerator a b la lb = omega (arith, natAbs-add a b)
 
-  pub E2-numerator : (a b c d : ℤ) → natAbs a ≤ m → natAbs b ≤ m → natAbs c ≤ m → natAbs d ≤ m → natAbs (pos 3 *ℤ a +ℤ pos 3 *ℤ b +ℤ c +ℤ d) ≤ m * 8
-  E2-numerator a b c d la lb lc ld =
+  pub started-at-most : (a b c : ℤ) → natAbs a ≤ m → natAbs b ≤ m → natAbs c ≤ m → natAbs (started a b c) ≤ m * 7
+  started-at-most a b c la lb lc =
       omega (
         arith,
         natAbs-mul (pos 3) a,
         natAbs-mul (pos 3) b,
         natAbs-add (pos 3 *ℤ a) (pos 3 *ℤ b),
         natAbs-add (pos 3 *ℤ a +ℤ pos 3 *ℤ b) c,
-        natAbs-add (pos 3 *ℤ a +ℤ pos 3 *ℤ b +ℤ c) d,
       )
+
+  pub E2-numerator : (a b c d : ℤ) → natAbs a ≤ m → natAbs b ≤ m → natAbs c ≤ m → natAbs d ≤ m → natAbs (started a b c +ℤ d) ≤ m * 8
+  E2-numerator a b c d la lb lc ld = omega (arith, started-at-most a b c la lb lc, natAbs-add (started a b c) d)
 
   pub V2-numerator : (v s : ℤ) → natAbs v ≤ m → natAbs s ≤ m * 2 → natAbs (pos 6 *ℤ v +ℤ s) ≤ m * 8
   V2-numerator v s lv ls = omega (arith, natAbs-mul (pos 6) v, natAbs-add (pos 6 *ℤ v) s)

@@ -1,16 +1,23 @@
--- What stores leave in the other cells (`Only`), and in the three cells of a point (`put-hit`, `put-only`). Assumes nothing.
-use Prim.Native.Nat.{ℕ, zero, suc, _+_, _≤_, _<_}
+-- What stores leave in the other cells (`Only`), and in the three cells of a point (`put-hit`, `put-only`); numbers are stored
+-- as they are (`near-stored`, `near-kept`, `put-stored`). Assumes nothing.
+use Prim.Native.Nat.{ℕ, zero, suc, _+_, _^_, _≤_, _<_}
 use mathlib.Core.Path.{_≡_, refl, sym, _∙_}
 use mathlib.Core.Bool.{Bool, true, false, cond}
 use mathlib.Core.List.{List}
 use native.Mathlib.Nat.{add-zero}
 use native.Mathlib.Omega.{arith}
-use lib.IntN.{ℤ, pos}
+use lib.IntN.{ℤ, pos, natAbs}
+use lib.Signed.{mag}
 use lib.ListN.{length, take, set, length-set}
 use lib.Seq.{getD-set-same, getD-set-other, getD-take, length-take-le, ext-getD}
+use mir.Syntax.{w32}
+use mir.Val.{toZ, ofZ}
+use mir.Facts.{toZ-ofZ}
 use Rattle.laws.specs.Steps.{steps}
+use Rattle.laws.proofs.Integers.{small-fits, back-of}
 use Rattle.laws.proofs.Steps.{steps-keep}
-use Rattle.points.specs.Passes.{value, put}
+use Rattle.points.specs.Operations.{most-coordinate}
+use Rattle.points.specs.Passes.{value, put, xyz, Near}
 
 -- a law of a point's three coordinates
 pub three : (P : ℕ → Type 0) → P 0 → P 1 → P 2 → (k : ℕ) → k < 3 → P k
@@ -89,3 +96,19 @@ module _ (to : ℕ) (g : ℕ → ℤ) (l : List ℤ) where
 pub put-same : (to : ℕ) (f g : ℕ → ℤ) (l : List ℤ) → f 0 ≡ g 0 → f 1 ≡ g 1 → f 2 ≡ g 2 → put to f l ≡ put to g l
 unfolding put
 put-same to f g l x y z = rw (x, y, z)
+
+-- a number as a cell has it
+abbrev pub stored : ℤ → ℤ
+stored z = toZ w32 (ofZ w32 z)
+
+module _ (p : List ℤ) (near : Near p) (k : ℕ) (l : k < 3) where
+  pub near-stored : stored (value p k) ≡ value p k
+  near-stored = toZ-ofZ (small-fits w32 (value p k) (omega (arith, near k l)))
+
+  pub near-kept : natAbs (stored (value p k)) ≤ most-coordinate
+  near-kept = rw near-stored (near k l)
+
+-- three numbers worked out and then stored
+pub put-stored : (to : ℕ) (g : ℕ → ℤ) (l : List ℤ) {m : List ℤ} {x y z : ℤ} → mag x < 2 ^ 31 → mag y < 2 ^ 31 → mag z < 2 ^ 31 → m ≡ put to (xyz (stored x) (stored y) (stored z)) l → x ≡ g 0 → y ≡ g 1 → z ≡ g 2 → m ≡ put to g l
+put-stored to g l {m} {x} {y} {z} fx fy fz e ex ey ez =
+    e ∙ put-same to (xyz (stored x) (stored y) (stored z)) g l (back-of w32 x fx ∙ ex) (back-of w32 y fy ∙ ey) (back-of w32 z fz ∙ ez)

@@ -1,54 +1,82 @@
--- What the pass over the vertices leaves: `settled-only`, `settled-is`; and each vertex is as the pass found it, `settles-on`.
--- Assumes nothing.
-use Prim.Native.Nat.{ℕ, zero, suc, _+_, _*_, _≤_, _<_}
-use mathlib.Core.Path.{_≡_, ap, _∙_}
-use mathlib.Core.List.{List}
+-- What the pass over the vertices leaves: `settled-only`, `settled-is`; each cell is as the pass found it, `settles-on`. A
+-- vertex's known corners: `own-known`, `added-known`, and a cell's turn with them, `settle-is`. Assumes nothing.
+use Prim.Native.Nat.{ℕ, zero, suc, _+_, _-_, _*_, _/_, _≤_, _<_}
+use mathlib.Core.Path.{_≡_, refl, sym, ap, ap₂, _∙_}
+use mathlib.Core.List.{List, [], _∷_}
 use native.Mathlib.Decide.{ℕ-discrete}
-use native.Mathlib.Nat.{not-suc-le-zero}
+use native.Mathlib.Nat.{not-suc-le-zero, le-of-suc-le-suc, add-zero, add-suc}
 use native.Mathlib.Omega.{arith}
-use lib.IntN.{ℤ}
-use lib.ListN.{length}
+use lib.IntN.{ℤ, pos}
+use lib.ListN.{length, set, List·getD-eq-default}
+use lib.Seq.{getD-set-same}
 use Rattle.laws.specs.Steps.{steps}
-use Rattle.points.specs.NextPoints.{coordinate}
-use Rattle.points.specs.Passes.{value, settled, settle, SettlesAt}
-use Rattle.points.proofs.Only.{Only, only-none, only-on, only-wider, put-only, put-hit}
+use Rattle.laws.proofs.Steps.{steps-on, steps-end}
+use Rattle.halfedges.specs.Cage.{cell}
+use Rattle.points.specs.PointRules.{V3}
+use Rattle.points.specs.Relied.{knownCorners}
+use Rattle.points.specs.Passes.{value, settle, SettlesAt}
+use Rattle.points.proofs.Only.{Only, only-none, only-on, only-wider, only-set}
 
-module _ (n : ℕ) (l : List ℤ) (room : 7 * n ≤ length l) where
-  -- what vertex v is made of
-  abbrev made : ℕ → ℕ → List ℤ → ℤ
-  made v k m = settled (value m (6 * n + v)) (coordinate m k v) (value m (3 * n + 3 * v + k))
+-- the corners of a listed vertex, and of another
+pub own-known : (own : List ℕ) (u : ℕ) → u < length own → knownCorners own u ≡ cell own u
+own-known [] u l = absurd (not-suc-le-zero l)
+own-known (x ∷ own) zero l = refl
+own-known (x ∷ own) (suc u) l = own-known own u (le-of-suc-le-suc l)
 
-  pub settled-only : (i : ℕ) → i ≤ n → Only (3 * n) (3 * n + 3 * i) l (steps i (settle n) l)
+pub added-known : (own : List ℕ) (u : ℕ) → length own ≤ u → knownCorners own u ≡ 6
+added-known own u l = List·getD-eq-default own 6 l
+
+-- steps in two parts
+pub steps-add : {A : Type 0} (f : ℕ → A → A) (x : A) (m n : ℕ) → steps (m + n) f x ≡ steps n (λ j. f (m + j)) (steps m f x)
+unfolding steps
+steps-add f x m zero = ap (λ k. steps k f x) (add-zero m)
+steps-add f x m (suc n) = ap (λ k. steps k f x) (add-suc m n) ∙ ap (f (m + n)) (steps-add f x m n)
+
+-- a turn of the second part
+pub steps-on-from : {A : Type 0} (f : ℕ → A → A) (x : A) (m i : ℕ) {y z : A} → m ≤ i → y ≡ steps (i - m) (λ j. f (m + j)) x → z ≡ f i y → z ≡ steps (i + 1 - m) (λ j. f (m + j)) x
+steps-on-from f x m i {y} l e d =
+    let at : i ≡ m + (i - m) = omega arith in
+    steps-end (λ j. f (m + j)) x (steps-on (λ j. f (m + j)) x (i - m) e (d ∙ ap (λ k. f k y) at)) (omega arith)
+
+-- a cell's turn, with corners that the vertex is known to have
+pub settle-is : (own : List ℕ) (n i : ℕ) (y : List ℤ) {corners : ℕ} {z : List ℤ} → knownCorners own (i / 3) ≡ corners → z ≡ set y (3 * n + i) (V3 corners (value y i) (value y (3 * n + i))) → z ≡ settle own n i y
+unfolding settle
+settle-is own n i y known d = d ∙ ap (λ k. set y (3 * n + i) (V3 k (value y i) (value y (3 * n + i)))) (sym known)
+
+module _ (own : List ℕ) (n : ℕ) (l : List ℤ) (room : 6 * n ≤ length l) where
+  -- what cell i is made
+  abbrev made : ℕ → List ℤ → ℤ
+  made i m = V3 (knownCorners own (i / 3)) (value m i) (value m (3 * n + i))
+
+  pub settled-only : (i : ℕ) → i ≤ 3 * n → Only (3 * n) (3 * n + i) l (steps i (settle own n) l)
   unfolding steps settle
   settled-only zero b = only-none _ _ l
   settled-only (suc i) b =
-      let m = steps i (settle n) l in
-      only-on (only-wider (3 * n) (3 * n + 3 * suc i) (omega arith) (omega arith) (settled-only i (omega arith)))
-      (only-wider (3 * n) (3 * n + 3 * suc i) (omega arith) (omega arith) (put-only (3 * n + 3 * i) (λ k. made i k m) m))
+      let m = steps i (settle own n) l in
+      only-on (only-wider (3 * n) (3 * n + suc i) (omega arith) (omega arith) (settled-only i (omega arith)))
+      (only-wider (3 * n) (3 * n + suc i) (omega arith) (omega arith) (only-set m (3 * n + i) (made i m)))
 
-  -- no vertex's cells are touched before its turn
-  untouched : (i k : ℕ) → i < n → k < 3 → (value (steps i (settle n) l) (6 * n + i) ≡ value l (6 * n + i)) × (coordinate (steps i (settle n) l) k i ≡ coordinate l k i) × (value (steps i (settle n) l) (3 * n + 3 * i + k) ≡ value l (3 * n + 3 * i + k))
-  untouched i k b lk =
+  -- no cell is touched before its turn
+  untouched : (i : ℕ) → i < 3 * n → (value (steps i (settle own n) l) i ≡ value l i) × (value (steps i (settle own n) l) (3 * n + i) ≡ value l (3 * n + i))
+  untouched i b =
       let only = settled-only i (omega arith) in
-      (only .other (6 * n + i) (λ p q. omega arith), only .other (3 * i + k) (λ p q. omega arith), only .other (3 * n + 3 * i + k) (λ p q. omega arith))
+      (only .other i (λ p q. omega arith), only .other (3 * n + i) (λ p q. omega arith))
 
-  pub settles-on : (i : ℕ) → i < n → SettlesAt n i l → SettlesAt n i (steps i (settle n) l)
-  settles-on i b s k lk = let u = untouched i k b lk in rw (u .0, u .1, u .2) (s k lk)
+  pub settles-on : (i : ℕ) → i < 3 * n → SettlesAt own n i l → SettlesAt own n i (steps i (settle own n) l)
+  settles-on i b s = let u = untouched i b in rw (u .0, u .1) s
 
-  pub settled-is : (v k : ℕ) → k < 3 → (i : ℕ) → i ≤ n → v < i → value (steps i (settle n) l) (3 * n + 3 * v + k) ≡ made v k l
+  pub settled-is : (j i : ℕ) → i ≤ 3 * n → j < i → value (steps i (settle own n) l) (3 * n + j) ≡ made j l
   unfolding steps settle
-  settled-is v k lk zero b lv = absurd (not-suc-le-zero lv)
-  settled-is v k lk (suc i) b lv = by (ℕ-discrete v i) (λ d. settled-is v k lk i (omega arith) (omega (arith, d)))
+  settled-is j zero b lj = absurd (not-suc-le-zero lj)
+  settled-is j (suc i) b lj = by (ℕ-discrete j i) (λ d. settled-is j i (omega arith) (omega (arith, d)))
     where
       m : List ℤ
-      m = steps i (settle n) l
+      m = steps i (settle own n) l
 
-      by : Dec (v ≡ i) → ((v ≡ i → ⊥) → value m (3 * n + 3 * v + k) ≡ made v k l) → value (settle n i m) (3 * n + 3 * v + k) ≡ made v k l
+      by : Dec (j ≡ i) → ((j ≡ i → ⊥) → value m (3 * n + j) ≡ made j l) → value (settle own n i m) (3 * n + j) ≡ made j l
       by (yes e) ih =
-          let u = untouched i k b lk in
+          let u = untouched i b in
           rw e
-          (put-hit (3 * n + 3 * i) (λ j. made i j m) m (rw (settled-only i (omega arith) .long) (omega arith)) k lk
-          ∙ ap (λ z. settled z (coordinate m k i) (value m (3 * n + 3 * i + k))) (u .0)
-          ∙ ap (λ z. settled (value l (6 * n + i)) z (value m (3 * n + 3 * i + k))) (u .1)
-          ∙ ap (λ z. settled (value l (6 * n + i)) (coordinate l k i) z) (u .2))
-      by (no e) ih = put-only (3 * n + 3 * i) (λ j. made i j m) m .other (3 * n + 3 * v + k) (λ p q. e (omega arith)) ∙ ih e
+          (getD-set-same m (3 * n + i) (made i m) (pos 0) (rw (settled-only i (omega arith) .long) (omega arith))
+          ∙ ap₂ (V3 (knownCorners own (i / 3))) (u .0) (u .1))
+      by (no e) ih = only-set m (3 * n + i) (made i m) .other (3 * n + j) (λ p q. e (omega arith)) ∙ ih e

@@ -5,14 +5,14 @@ use mathlib.Core.List.{List, _++_}
 use lib.IntN.{ℤ}
 use lib.ListN.{length, take, drop}
 use Rattle.halfedges.specs.declared.table.HalfedgeTable.{HalfedgeTable}
-use Rattle.laws.specs.Below.{endToEnd}
+use Rattle.laws.specs.Below.{tabulate, endToEnd}
 use Rattle.halfedges.specs.Cage.{marker, most-halfedges, most-depth}
 use Rattle.halfedges.specs.Counts.{AtMost, countsAt, roomV}
 use Rattle.connectivity.specs.Tables.{Tables, tables}
 use Rattle.connectivity.specs.NextLevel.{level}
 use Rattle.connectivity.specs.Operations.{levelsEndToEnd}
-use Rattle.points.specs.NextPoints.{nextPoints, levelPoints}
-use Rattle.points.specs.Relied.{Relied, InRange}
+use Rattle.points.specs.NextPoints.{corners, nextPoints, levelPoints}
+use Rattle.points.specs.Relied.{Relied, Known, InRange}
 
 -- the points of a level with counts t that start at cell `at`
 abbrev pub pointsAt : HalfedgeTable → ℕ → List ℤ → List ℤ
@@ -26,9 +26,10 @@ nextEnd t at = at + 3 * t .vertices + 3 * (t .vertices + t .edges)
 unfoldable pub withNext : HalfedgeTable → Tables → ℕ → List ℤ → List ℤ
 withNext t c at points = take (at + 3 * t .vertices) points ++ (nextPoints t c (pointsAt t at points) ++ drop (nextEnd t at) points)
 
--- what that takes: the tables' promise, points in range and room; and no halfedge's number is the marker
-pub record Ready (t : HalfedgeTable) (c : Tables) (at : ℕ) (points : List ℤ) : Type 0 where
+-- what that takes: the tables' promise, known corners, points in range and room; and no halfedge's number is the marker
+pub record Ready (own : List ℕ) (t : HalfedgeTable) (c : Tables) (at : ℕ) (points : List ℤ) : Type 0 where
   pub relied : Relied t c
+  pub known : Known own (c .twin) (c .vert) (t .vertices)
   pub short : t .halfedges ≤ marker
   pub in-range : InRange (pointsAt t at points)
   pub room : nextEnd t at ≤ length points
@@ -46,6 +47,10 @@ tablesAt t start lent =
 abbrev pub cageOf : HalfedgeTable → Tables → Tables
 cageOf t lent = tablesAt t 0 lent
 
+-- the corners of the cage's vertices
+abbrev pub cageCorners : HalfedgeTable → Tables → List ℕ
+cageCorners t lent = tabulate (t .vertices) (λ u. length (corners (cageOf t lent .vert) u))
+
 -- the levels' points end to end, of a cage whose points the table starts with
 abbrev pub pointLevels : HalfedgeTable → Tables → List ℤ → ℕ → List ℤ
 pointLevels t lent points n = endToEnd n (levelPoints t (cageOf t lent) (take (3 * t .vertices) points))
@@ -58,9 +63,11 @@ withLevels t depth lent points = pointLevels t lent points (suc depth) ++ drop (
 pub record ReadyLevels (t : HalfedgeTable) (depth : ℕ) (lent : Tables) (points : List ℤ) : Type 0 where
   pub counts : AtMost most-halfedges t
   pub deep : depth ≤ most-depth
+  pub cage-long : t .halfedges ≤ length (lent .vert)
   pub twins : StartsWith (levelsEndToEnd t (cageOf t lent) depth .twin) (lent .twin)
   pub verts : StartsWith (levelsEndToEnd t (cageOf t lent) depth .vert) (lent .vert)
   pub edges : StartsWith (levelsEndToEnd t (cageOf t lent) depth .edge) (lent .edge)
   pub relied : (d : ℕ) → d < depth → Relied (countsAt t d) (level t (cageOf t lent) d)
+  pub known : (d : ℕ) → d < depth → Known (cageCorners t lent) (level t (cageOf t lent) d .twin) (level t (cageOf t lent) d .vert) (countsAt t d .vertices)
   pub in-range : InRange (take (3 * t .vertices) points)
   pub room : 3 * roomV t depth ≤ length points

@@ -1,20 +1,21 @@
 -- The passes over a level, each by the stores that it makes at one step. The part of the points that is lent starts with the
--- level's own points, 3n cells for n vertices. The next level's follow. The new place of vertex v is at 3n + 3v, where its sums
--- are kept till then; the point of edge e is at 6n + 3e; and the first n of the edges' cells keep the vertices' counts till then.
+-- level's own points, 3n cells for n vertices. The next level's follow: the new place of vertex v is at 3n + 3v, where its sums
+-- are kept till then, and the point of edge e at 6n + 3e.
 -- Only the passes' own contracts cite these; the promise of a whole level, in Levels, does not.
-use Prim.Native.Nat.{ℕ, zero, suc, _+_, _*_, _^_, _≤_, _<_}
+use Prim.Native.Nat.{ℕ, zero, suc, _+_, _*_, _/_, _^_, _≤_, _<_}
 use mathlib.Core.Path.{_≡_}
 use mathlib.Core.Bool.{Bool, cond, _||_}
-use mathlib.Core.List.{List}
-use mathlib.Core.Logic.{_≢_}
+use mathlib.Core.List.{List, [], _∷_}
 use lib.Dec.{eqb, ltb}
-use lib.IntN.{ℤ, pos, natAbs, _+ℤ_}
+use lib.IntN.{ℤ, pos, natAbs, _+ℤ_, _-ℤ_, _*ℤ_}
+use lib.Signed.{leZ}
 use lib.ListN.{length, getD, take, set}
-use Rattle.halfedges.specs.Cage.{marker, cell, border}
-use Rattle.points.specs.PointRules.{E1, E2, V2, V3}
-use Rattle.points.specs.NextPoints.{coordinate, far, edgePoint}
+use Rattle.rounding.specs.Rounding.{round}
+use Rattle.halfedges.specs.Cage.{PREV, marker, cell, border}
+use Rattle.points.specs.PointRules.{E1, V3}
+use Rattle.points.specs.NextPoints.{coordinate, far}
 use Rattle.points.specs.Operations.{most-coordinate}
-use Rattle.points.specs.Relied.{most-corners, Cornered, InRange}
+use Rattle.points.specs.Relied.{most-corners, knownCorners, Cornered, InRange}
 
 -- what cell i holds
 abbrev pub value : List ℤ → ℕ → ℤ
@@ -30,18 +31,25 @@ xyz x y z zero = x
 xyz x y z (suc zero) = y
 xyz x y z (suc (suc k)) = z
 
--- the level's points are in range, and the sums and the counts have room after them
+-- the point of vertex v, and that a point is in range
+abbrev pub pointOf : List ℤ → ℕ → List ℤ
+pointOf l v = coordinate l 0 v ∷ coordinate l 1 v ∷ coordinate l 2 v ∷ []
+
+abbrev pub Near : List ℤ → Type 0
+Near p = (k : ℕ) → k < 3 → natAbs (value p k) ≤ most-coordinate
+
+-- the level's points are in range, and the sums have room after them
 pub record Laid (n : ℕ) (l : List ℤ) : Type 0 where
-  pub room : 7 * n ≤ length l
+  pub room : 6 * n ≤ length l
   pub in-range : InRange (take (3 * n) l)
 
--- 1: a cell of the sums and counts is made 0
+-- 1: a cell of the sums is made 0
 unfoldable pub clearCell : ℕ → ℕ → List ℤ → List ℤ
 clearCell n i l = set l (3 * n + i) (pos 0)
 
 -- all of them are
 abbrev pub Cleared : ℕ → List ℤ → Type 0
-Cleared n l = (i : ℕ) → i < 4 * n → value l (3 * n + i) ≡ pos 0
+Cleared n l = (i : ℕ) → i < 3 * n → value l (3 * n + i) ≡ pos 0
 
 -- the point of vertex b is added to the sums of vertex a
 unfoldable pub addPoint : ℕ → ℕ → ℕ → List ℤ → List ℤ
@@ -51,101 +59,99 @@ addPoint n a b l = put (3 * n + 3 * a) (λ k. value l (3 * n + 3 * a + k) +ℤ c
 pub record Adds (n a b : ℕ) (l : List ℤ) : Type 0 where
   pub in-a : a < n
   pub in-b : b < n
-  pub room : 7 * n ≤ length l
+  pub room : 6 * n ≤ length l
   pub fits : (k : ℕ) → k < 3 → natAbs (value l (3 * n + 3 * a + k)) + natAbs (coordinate l k b) < 2 ^ 31
 
--- a spoke from a to b: b's point is added to a's sums, and one to its count
-unfoldable pub addSpoke : ℕ → ℕ → ℕ → List ℤ → List ℤ
-addSpoke n a b l = set (addPoint n a b l) (6 * n + a) (value l (6 * n + a) +ℤ pos 1)
-
-abbrev pub AddsSpoke : ℕ → ℕ → ℕ → List ℤ → Type 0
-AddsSpoke n a b l = Adds n a b l × (natAbs (value l (6 * n + a)) < most-corners)
-
--- a triangle's three spokes, by its corners
+-- a triangle's three spokes, from each corner to the next
 unfoldable pub addTriangle : ℕ → List ℕ → List ℤ → List ℤ
 addTriangle n corners l =
-    addSpoke n (cell corners 2) (cell corners 0) (addSpoke n (cell corners 1) (cell corners 2) (addSpoke n (cell corners 0) (cell corners 1) l))
+    addPoint n (cell corners 2) (cell corners 0) (addPoint n (cell corners 1) (cell corners 2) (addPoint n (cell corners 0) (cell corners 1) l))
 
 pub record AddsTriangle (n : ℕ) (corners : List ℕ) (l : List ℤ) : Type 0 where
-  pub first : AddsSpoke n (cell corners 0) (cell corners 1) l
-  pub second : AddsSpoke n (cell corners 1) (cell corners 2) (addSpoke n (cell corners 0) (cell corners 1) l)
-  pub third : AddsSpoke n (cell corners 2) (cell corners 0) (addSpoke n (cell corners 1) (cell corners 2) (addSpoke n (cell corners 0) (cell corners 1) l))
+  pub first : Adds n (cell corners 0) (cell corners 1) l
+  pub second : Adds n (cell corners 1) (cell corners 2) (addPoint n (cell corners 0) (cell corners 1) l)
+  pub third : Adds n (cell corners 2) (cell corners 0) (addPoint n (cell corners 1) (cell corners 2) (addPoint n (cell corners 0) (cell corners 1) l))
 
 -- 2: the spoke of halfedge h
 unfoldable pub spoke : List ℕ → ℕ → ℕ → List ℤ → List ℤ
-spoke vert n h l = addSpoke n (cell vert h) (far vert h) l
+spoke vert n h l = addPoint n (cell vert h) (far vert h) l
 
--- the sums and the count of vertex a are made 0
-unfoldable pub clearVertex : ℕ → ℕ → List ℤ → List ℤ
-clearVertex n a l = set (put (3 * n + 3 * a) (λ k. pos 0) l) (6 * n + a) (pos 0)
+-- 3: cell i of the sums is made the new place by V.3, also where V.2 is to come
+unfoldable pub settle : List ℕ → ℕ → ℕ → List ℤ → List ℤ
+settle own n i l = set l (3 * n + i) (V3 (knownCorners own (i / 3)) (value l i) (value l (3 * n + i)))
 
--- 3: those of the vertex that a border halfedge h leaves
-unfoldable pub clearBorder : List ℕ → List ℕ → ℕ → ℕ → List ℤ → List ℤ
-clearBorder twin vert n h l = cond (border twin h) (clearVertex n (cell vert h) l) l
-
--- each end of an edge is added to the other's sums
-unfoldable pub addEnds : ℕ → ℕ → ℕ → List ℤ → List ℤ
-addEnds n a b l = addPoint n b a (addPoint n a b l)
-
-abbrev pub AddsEnds : ℕ → ℕ → ℕ → List ℤ → Type 0
-AddsEnds n a b l = Adds n a b l × Adds n b a (addPoint n a b l)
-
--- the sums are those of at most 1,024 coordinates
-abbrev pub Summed : ℕ → List ℤ → Type 0
-Summed n l = (v k : ℕ) → v < n → k < 3 → natAbs (value l (3 * n + 3 * v + k)) ≤ most-coordinate * most-corners
-
--- 4: the ends of a border halfedge h
-unfoldable pub addBorder : List ℕ → List ℕ → ℕ → ℕ → List ℤ → List ℤ
-addBorder twin vert n h l = cond (border twin h) (addEnds n (cell vert h) (far vert h) l) l
-
--- a vertex's new place by its count of corners, 0 at the border, its old place x, and its sum
-unfoldable pub settled : ℤ → ℤ → ℤ → ℤ
-settled count x sum = cond (eqb (natAbs count) 0) (V2 x sum) (V3 (natAbs count) x sum)
-
--- what the rules ask of them
-pub record Settles (count x sum : ℤ) : Type 0 where
-  pub whole : count ≡ pos (natAbs count)
-  pub few : natAbs count ≤ most-corners
+-- what the rule asks of corners, a place and a sum
+pub record Settles (corners : ℕ) (x sum : ℤ) : Type 0 where
+  pub some : 0 < corners
+  pub few : corners ≤ most-corners
   pub place : natAbs x ≤ most-coordinate
-  pub at-border : natAbs count ≡ 0 → natAbs sum ≤ most-coordinate * 2
-  pub inside : natAbs count ≢ 0 → natAbs sum ≤ most-coordinate * natAbs count
+  pub small : natAbs sum ≤ most-coordinate * corners
 
--- 5: vertex v
-unfoldable pub settle : ℕ → ℕ → List ℤ → List ℤ
-settle n v l = put (3 * n + 3 * v) (λ k. settled (value l (6 * n + v)) (coordinate l k v) (value l (3 * n + 3 * v + k))) l
+abbrev pub SettlesAt : List ℕ → ℕ → ℕ → List ℤ → Type 0
+SettlesAt own n i l = Settles (knownCorners own (i / 3)) (value l i) (value l (3 * n + i))
 
-abbrev pub SettlesAt : ℕ → ℕ → List ℤ → Type 0
-SettlesAt n v l = (k : ℕ) → k < 3 → Settles (value l (6 * n + v)) (coordinate l k v) (value l (3 * n + 3 * v + k))
+-- what E.2's numerator has from the lower of an edge's halfedges: 3a+3b+c
+abbrev pub started : ℤ → ℤ → ℤ → ℤ
+started a b c = pos 3 *ℤ a +ℤ pos 3 *ℤ b +ℤ c
 
--- h has no twin or a twin with a higher number: it is the lowest that carries its edge
-abbrev pub lowest-carrier : List ℕ → ℕ → Bool
-lowest-carrier twin h = border twin h || ltb h (cell twin h)
+-- and E.2 with what the higher one adds
+abbrev pub finished : ℤ → ℤ → ℤ
+finished sum d = round (sum +ℤ d) 8
+
+-- what tells V.2's numerator without one of its neighbours from a place
+abbrev pub mark : ℕ
+mark = 2 ^ 30
+
+-- a border vertex x meets its neighbours one after the other: the first makes its cell 6x+a, marked, and the second makes that V.2
+unfoldable pub met : ℤ → ℤ → ℤ → ℤ
+met now x a = cond (leZ now (pos most-coordinate)) (pos 6 *ℤ x +ℤ a +ℤ pos mark) (round (now -ℤ pos mark +ℤ a) 8)
+
+unfoldable pub meet : ℕ → ℕ → List ℤ → List ℤ → List ℤ → List ℤ
+meet n v p q l = put (3 * n + 3 * v) (λ k. met (value l (3 * n + 3 * v + k)) (value p k) (value q k)) l
+
+-- a border edge e from vertex a to b, at p and q: E.1, and each end meets the other
+unfoldable pub borderEdge : ℕ → ℕ → ℕ → ℕ → List ℤ → List ℤ → List ℤ → List ℤ
+borderEdge n e a b p q l = meet n b q p (meet n a p q (put (6 * n + 3 * e) (λ k. E1 (value p k) (value q k)) l))
+
+-- an inner edge e, from its lower halfedge with ends at p, q and opposite corner r, and from its higher one with opposite corner r
+unfoldable pub startEdge : ℕ → ℕ → List ℤ → List ℤ → List ℤ → List ℤ → List ℤ
+startEdge n e p q r l = put (6 * n + 3 * e) (λ k. started (value p k) (value q k) (value r k)) l
+
+unfoldable pub finishEdge : ℕ → ℕ → List ℤ → List ℤ → List ℤ
+finishEdge n e r l = put (6 * n + 3 * e) (λ k. finished (value l (6 * n + 3 * e + k)) (value r k)) l
+
+-- halfedge h with twin t, of edge e, from vertex a to b
+unfoldable pub stepEdge : ℕ → ℕ → ℕ → ℕ → ℕ → ℕ → List ℤ → List ℤ → List ℤ → List ℤ → List ℤ
+stepEdge n h t e a b p q r l = cond (ltb t h) (finishEdge n e r l) (cond (eqb t marker) (borderEdge n e a b p q l) (startEdge n e p q r l))
+
+-- 4: halfedge h, with the points of a level
+unfoldable pub putEdge : List ℕ → List ℕ → List ℕ → ℕ → List ℤ → ℕ → List ℤ → List ℤ
+putEdge twin vert edge n points h l =
+    stepEdge n h (cell twin h) (cell edge h) (cell vert h) (far vert h) (pointOf points (cell vert h)) (pointOf points (far vert h)) (pointOf points (cell vert (PREV h))) l
 
 -- the tables name halfedges, vertices in range, and edges that there is room for
 pub record Edged (twin vert edge : List ℕ) (n : ℕ) (l : List ℤ) : Type 0 where
   pub cornered : Cornered vert n
   pub twin-long : length twin ≡ length vert
   pub edge-long : length edge ≡ length vert
-  pub twin-below : (h : ℕ) → h < length vert → cell twin h ≢ marker → cell twin h < length vert
+  pub short : length vert ≤ marker
   pub room : (h : ℕ) → h < length vert → 6 * n + 3 * cell edge h + 2 < length l
   pub in-range : InRange (take (3 * n) l)
 
--- the point of vertex v can be read
-pub record Near (l : List ℤ) (v : ℕ) : Type 0 where
-  pub inside : 3 * v + 2 < length l
-  pub small : (k : ℕ) → k < 3 → natAbs (coordinate l k v) ≤ most-coordinate
-
--- the points of a border edge with ends a, b, and of an inner edge with ends a, b and opposite corners c, d
-abbrev pub borderPoint : List ℤ → ℕ → ℕ → ℕ → ℤ
-borderPoint l a b k = E1 (coordinate l k a) (coordinate l k b)
-
-abbrev pub innerPoint : List ℤ → ℕ → ℕ → ℕ → ℕ → ℕ → ℤ
-innerPoint l a b c d k = E2 (coordinate l k a) (coordinate l k b) (coordinate l k c) (coordinate l k d)
-
--- 6: the point of h's edge, from the lowest halfedge that carries it
-unfoldable pub putEdge : List ℕ → List ℕ → List ℕ → ℕ → ℕ → List ℤ → List ℤ
-putEdge twin vert edge n h l = cond (lowest-carrier twin h) (put (6 * n + 3 * cell edge h) (edgePoint twin vert l h) l) l
+-- where h is the higher halfedge of its edge, the lower one has been there
+abbrev pub Started : List ℕ → List ℕ → ℕ → ℕ → List ℤ → Type 0
+Started twin edge n h l = cell twin h < h → (k : ℕ) → k < 3 → natAbs (value l (6 * n + 3 * cell edge h + k)) ≤ most-coordinate * 7
 
 -- of a triangle's three halfedges
-unfoldable pub putTriangle : List ℕ → List ℕ → List ℕ → ℕ → ℕ → List ℤ → List ℤ
-putTriangle twin vert edge n t l = putEdge twin vert edge n (3 * t + 2) (putEdge twin vert edge n (3 * t + 1) (putEdge twin vert edge n (3 * t) l))
+unfoldable pub putTriangle : List ℕ → List ℕ → List ℕ → ℕ → List ℤ → ℕ → List ℤ → List ℤ
+putTriangle twin vert edge n points t l =
+    putEdge twin vert edge n points (3 * t + 2) (putEdge twin vert edge n points (3 * t + 1) (putEdge twin vert edge n points (3 * t) l))
+
+pub record StartedTriangle (twin vert edge : List ℕ) (n : ℕ) (points : List ℤ) (t : ℕ) (l : List ℤ) : Type 0 where
+  pub first : Started twin edge n (3 * t) l
+  pub second : Started twin edge n (3 * t + 1) (putEdge twin vert edge n points (3 * t) l)
+  pub third : Started twin edge n (3 * t + 2) (putEdge twin vert edge n points (3 * t + 1) (putEdge twin vert edge n points (3 * t) l))
+
+-- h has no twin or a twin with a higher number: it is the lowest that carries its edge
+abbrev pub lowest-carrier : List ℕ → ℕ → Bool
+lowest-carrier twin h = border twin h || ltb h (cell twin h)

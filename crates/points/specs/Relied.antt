@@ -1,5 +1,5 @@
 -- What the point rules rely on of a level's tables. It follows from rules 1 and 3 to 7, and from the limits.
-use Prim.Native.Nat.{ℕ, _*_, _%_, _≤_, _<_}
+use Prim.Native.Nat.{ℕ, _%_, _≤_, _<_}
 use mathlib.Core.Path.{_≡_}
 use mathlib.Core.Logic.{_≢_, _⊎_}
 use mathlib.Core.Bool.{Bool, _&&_}
@@ -36,7 +36,18 @@ borderEnds twin vert u h = border twin h && eqb (far vert h) u
 pub record Bordered (twin vert : List ℕ) (v : ℕ) : Type 0 where
   pub long : length twin ≡ length vert
   pub one : (u : ℕ) → u < v → count (length vert) (borderLeaves twin vert u) ≤ 1
-  pub pair : (u : ℕ) → u < v → count (length vert) (borderEnds twin vert u) ≤ count (length vert) (borderLeaves twin vert u)
+  pub pair : (u : ℕ) → u < v → count (length vert) (borderEnds twin vert u) ≡ count (length vert) (borderLeaves twin vert u)
+
+-- how many corners a vertex inside has: those of the cage's vertices are listed, and an added one has six
+abbrev pub knownCorners : List ℕ → ℕ → ℕ
+knownCorners own u = getD own u 6
+
+-- it does have them, and none has more
+pub record Known (own twin vert : List ℕ) (v : ℕ) : Type 0 where
+  pub inside : (u : ℕ) → u < v → count (length vert) (borderLeaves twin vert u) ≡ 0 → length (corners vert u) ≡ knownCorners own u
+  pub most : (u : ℕ) → u < v → length (corners vert u) ≤ knownCorners own u
+  pub few : (u : ℕ) → u < v → knownCorners own u ≤ most-corners
+  pub fewer : length own ≤ v
 
 -- every edge below e is carried, by a halfedge and its twin and no other: rules 1, 3 and 6
 pub record Carried (twin edge : List ℕ) (e : ℕ) : Type 0 where
@@ -54,7 +65,6 @@ pub record Relied (t : HalfedgeTable) (c : Tables) : Type 0 where
   pub cornered : Cornered (c .vert) (t .vertices)
   pub bordered : Bordered (c .twin) (c .vert) (t .vertices)
   pub carried : Carried (c .twin) (c .edge) (t .edges)
-  pub enough : t .vertices ≤ 3 * t .edges
 
 -- rule 8: every coordinate is in range
 abbrev pub InRange : List ℤ → Type 0

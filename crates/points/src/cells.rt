@@ -3,8 +3,7 @@ ghost use mathlib.Core.Path.{_≡_};
 ghost use Prim.Native.Nat.{_+_, _*_, _^_, _<_};
 ghost use lib.IntN.{natAbs, _+ℤ_};
 ghost use lib.ListN.{length};
-ghost use Rattle.points.specs.NextPoints.{coordinate as NextPoints·coordinate};
-ghost use Rattle.points.specs.Passes.{value, put, xyz};
+ghost use Rattle.points.specs.Passes.{value, put, xyz, pointOf};
 
 // Coordinates x, y, z are stored from a cell on.
 pub fn put_point(points: &mut [i32], to: usize, x: i32, y: i32, z: i32)
@@ -26,11 +25,11 @@ pub fn sum_of(points: &[i32], a: usize, b: usize, k: usize) -> i32
     x + y
 }
 
-// Coordinate k of a vertex.
-pub fn coordinate(points: &[i32], vertex: usize, k: usize) -> i64
-    requires { ⌜ 3 * vertex + k < length (now points) ⌝ }
-    ensures { λ r. ⌜ r ≡ NextPoints·coordinate (now (points .entry)) k vertex ⌝ }
+// A vertex's point.
+pub fn point_of(points: &[i32], vertex: usize) -> [i32; 3]
+    requires { ⌜ 3 * vertex + 2 < length (now points) ⌝ }
+    ensures { λ r. ⌜ r ≡ pointOf (now (points .entry)) vertex ⌝ }
 {
-    let x = points[3 * vertex + k];
-    x as i64
+    let place = 3 * vertex;
+    [points[place], points[place + 1], points[place + 2]]
 }

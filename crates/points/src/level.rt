@@ -1,9 +1,7 @@
-// The points of one level from those of the level before: the six passes.
+// The points of one level from those of the level before: the four passes.
 ghost use mathlib.Core.Path.{_≡_};
 ghost use Rattle.connectivity.specs.Tables.{tables};
 ghost use Rattle.points.specs.Levels.{Ready, withNext};
-use crate::border::add_border;
-use crate::border::clear_border;
 use crate::edges::write_edges;
 use crate::spokes::add_spokes;
 use crate::spokes::clear_sums;
@@ -11,21 +9,27 @@ use crate::vertices::settle_vertices;
 use halfedges::table::HalfedgeTable;
 
 // The next level's points, in a table that starts with the level's own.
-fn next_points(table: HalfedgeTable, twin: &[u32], vert: &[u32], edge: &[u32], points: &mut [i32])
-    requires { ⌜ Ready table (tables (now twin) (now vert) (now edge)) 0 (now points) ⌝ }
+fn next_points(
+    own: &[u32],
+    table: HalfedgeTable,
+    twin: &[u32],
+    vert: &[u32],
+    edge: &[u32],
+    points: &mut [i32],
+)
+    requires { ⌜ Ready (now own) table (tables (now twin) (now vert) (now edge)) 0 (now points) ⌝ }
     ensures { λ _. ⌜ now (points .exit) ≡ withNext table (tables (now (twin .entry)) (now (vert .entry)) (now (edge .entry))) 0 (now (points .entry)) ⌝ }
 {
     let vertices = table.vertices;
     clear_sums(&mut *points, vertices);
     add_spokes(vert, &mut *points, vertices);
-    clear_border(twin, vert, &mut *points, vertices);
-    add_border(twin, vert, &mut *points, vertices);
-    settle_vertices(&mut *points, vertices);
+    settle_vertices(own, &mut *points, vertices);
     write_edges(twin, vert, edge, &mut *points, vertices);
 }
 
 // The next level's points, in a table where the level's own start at a cell.
 pub fn next_level(
+    own: &[u32],
     table: HalfedgeTable,
     twin: &[u32],
     vert: &[u32],
@@ -33,8 +37,8 @@ pub fn next_level(
     points: &mut [i32],
     at: usize,
 )
-    requires { ⌜ Ready table (tables (now twin) (now vert) (now edge)) at (now points) ⌝ }
+    requires { ⌜ Ready (now own) table (tables (now twin) (now vert) (now edge)) at (now points) ⌝ }
     ensures { λ _. ⌜ now (points .exit) ≡ withNext table (tables (now (twin .entry)) (now (vert .entry)) (now (edge .entry))) at (now (points .entry)) ⌝ }
 {
-    next_points(table, twin, vert, edge, &mut points[at..]);
+    next_points(own, table, twin, vert, edge, &mut points[at..]);
 }

@@ -1,5 +1,4 @@
 // The points of the levels, by document 01's point rules.
-mod border;
 mod cells;
 mod edges;
 pub mod level;

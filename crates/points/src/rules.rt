@@ -3,35 +3,62 @@ ghost use mathlib.Core.Path.{_≡_};
 ghost use Prim.Native.Nat.{_*_, _≤_};
 ghost use lib.IntN.{pos, natAbs};
 ghost use lib.Signed.{_<ℤ_};
-ghost use Rattle.points.specs.PointRules.{E1, E2, V2, V3};
+ghost use Rattle.points.specs.PointRules.{E1, V3};
 ghost use Rattle.points.specs.Operations.{most-coordinate};
 ghost use Rattle.points.specs.Relied.{most-corners};
+ghost use Rattle.points.specs.Passes.{started, finished, met};
+use rounding::eighth;
+use rounding::rounded;
+use rounding::sixteenth;
+
+// The largest coordinate of a cage.
+const MOST_COORDINATE: i32 = 1048576;
+
+// What is added to V.2's numerator till its second neighbour is known, so that it is no coordinate.
+const MARK: i32 = 1073741824;
 
 // E.1: the point of a border edge with ends a, b.
-pub fn border_edge(a: i64, b: i64) -> i32
+pub fn border_edge(a: i32, b: i32) -> i32
     requires { ⌜ (natAbs a ≤ most-coordinate) × (natAbs b ≤ most-coordinate) ⌝ }
     ensures { λ r. ⌜ r ≡ E1 a b ⌝ }
 {
-    let numerator = a + b;
-    rounding::rounded(numerator, 2)
+    let numerator = a as i64 + b as i64;
+    rounded(numerator, 2)
 }
 
-// E.2: the point of an inner edge with ends a, b and opposite corners c, d.
-pub fn inner_edge(a: i64, b: i64, c: i64, d: i64) -> i32
-    requires { ⌜ (natAbs a ≤ most-coordinate) × (natAbs b ≤ most-coordinate) × (natAbs c ≤ most-coordinate) × (natAbs d ≤ most-coordinate) ⌝ }
-    ensures { λ r. ⌜ r ≡ E2 a b c d ⌝ }
+// What E.2's numerator has from the lower of an edge's halfedges, with ends a, b and opposite corner c.
+pub fn started_edge(a: i32, b: i32, c: i32) -> i32
+    requires { ⌜ (natAbs a ≤ most-coordinate) × (natAbs b ≤ most-coordinate) × (natAbs c ≤ most-coordinate) ⌝ }
+    ensures { λ r. ⌜ r ≡ started a b c ⌝ }
 {
-    let numerator = 3 * a + 3 * b + c + d;
-    rounding::rounded(numerator, 8)
+    3 * a + 3 * b + c
 }
 
-// V.2: the new place of a border vertex, with the sum of its two border neighbours.
-pub fn border_vertex(vertex: i64, sum: i64) -> i32
-    requires { ⌜ (natAbs vertex ≤ most-coordinate) × (natAbs sum ≤ most-coordinate * 2) ⌝ }
-    ensures { λ r. ⌜ r ≡ V2 vertex sum ⌝ }
+// E.2, with the opposite corner d that the higher one has.
+pub fn finished_edge(sum: i32, d: i32) -> i32
+    requires { ⌜ (natAbs sum ≤ most-coordinate * 7) × (natAbs d ≤ most-coordinate) ⌝ }
+    ensures { λ r. ⌜ r ≡ finished sum d ⌝ }
 {
-    let numerator = 6 * vertex + sum;
-    rounding::rounded(numerator, 8)
+    eighth(sum + d)
+}
+
+// A border vertex meets a neighbour: V.2 once it has met both.
+pub fn border_vertex(now: i32, vertex: i32, neighbour: i32) -> i32
+    requires { ⌜ (natAbs vertex ≤ most-coordinate) × (natAbs neighbour ≤ most-coordinate) ⌝ }
+    ensures { λ r. ⌜ r ≡ met now vertex neighbour ⌝ }
+{
+    if now <= MOST_COORDINATE {
+        return 6 * vertex + neighbour + MARK;
+    }
+    eighth(now - MARK + neighbour)
+}
+
+// V.3 with six corners, (10v+s)/16.
+pub fn added_vertex(vertex: i32, sum: i32) -> i32
+    requires { ⌜ (natAbs vertex ≤ most-coordinate) × (natAbs sum ≤ most-coordinate * 6) ⌝ }
+    ensures { λ r. ⌜ r ≡ V3 6 vertex sum ⌝ }
+{
+    sixteenth(10 * vertex + sum)
 }
 
 // V.3: the new place of an inner vertex, with its number of corners and the sum over its spokes' far ends.
@@ -41,5 +68,5 @@ pub fn inner_vertex(corners: i64, vertex: i64, sum: i64) -> i32
 {
     let numerator = 5 * corners * vertex + 3 * sum;
     let denominator = 8 * corners;
-    rounding::rounded(numerator, denominator)
+    rounded(numerator, denominator)
 }

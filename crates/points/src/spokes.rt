@@ -4,27 +4,26 @@ ghost use Prim.Native.Nat.{_*_, _≤_};
 ghost use lib.ListN.{length};
 ghost use Rattle.laws.specs.Steps.{steps};
 ghost use Rattle.points.specs.Relied.{Cornered};
-ghost use Rattle.points.specs.Passes.{Laid, clearCell, Cleared, addPoint, Adds, addSpoke, AddsSpoke, addTriangle, AddsTriangle, spoke};
+ghost use Rattle.points.specs.Passes.{Laid, clearCell, Cleared, addPoint, Adds, addTriangle, AddsTriangle, spoke};
 use crate::cells::put_point;
 use crate::cells::sum_of;
 use halfedges::corners::corners_of;
 
-// The cells of the sums and the counts are made 0.
+// The cells of the sums are made 0.
 pub fn clear_sums(points: &mut [i32], vertices: usize)
-    requires { ⌜ 7 * vertices ≤ length (now points) ⌝ }
-    ensures { λ _. ⌜ now (points .exit) ≡ steps (4 * vertices) (clearCell vertices) (now (points .entry)) ⌝ }
+    requires { ⌜ 6 * vertices ≤ length (now points) ⌝ }
+    ensures { λ _. ⌜ now (points .exit) ≡ steps (3 * vertices) (clearCell vertices) (now (points .entry)) ⌝ }
 {
-    let start = 3 * vertices;
-    let cells = 4 * vertices;
+    let cells = 3 * vertices;
     let mut i = 0;
     while i < cells {
-        points[start + i] = 0;
+        points[cells + i] = 0;
         i += 1;
     }
 }
 
 // The point of vertex b is added to the sums of vertex a.
-pub fn add_point(points: &mut [i32], vertices: usize, a: usize, b: usize)
+fn add_point(points: &mut [i32], vertices: usize, a: usize, b: usize)
     requires { ⌜ Adds vertices a b (now points) ⌝ }
     ensures { λ _. ⌜ now (points .exit) ≡ addPoint vertices a b (now (points .entry)) ⌝ }
 {
@@ -36,17 +35,6 @@ pub fn add_point(points: &mut [i32], vertices: usize, a: usize, b: usize)
     put_point(&mut *points, to, x, y, z);
 }
 
-// A spoke from a to b: b's point is added to a's sums, and one to its count.
-fn add_spoke(points: &mut [i32], vertices: usize, a: usize, b: usize)
-    requires { ⌜ AddsSpoke vertices a b (now points) ⌝ }
-    ensures { λ _. ⌜ now (points .exit) ≡ addSpoke vertices a b (now (points .entry)) ⌝ }
-{
-    let place = 6 * vertices + a;
-    let count = points[place];
-    add_point(&mut *points, vertices, a, b);
-    points[place] = count + 1;
-}
-
 // A triangle's three spokes, from each corner to the next.
 fn add_triangle(points: &mut [i32], vertices: usize, corners: [u32; 3])
     requires { ⌜ AddsTriangle vertices corners (now points) ⌝ }
@@ -55,9 +43,9 @@ fn add_triangle(points: &mut [i32], vertices: usize, corners: [u32; 3])
     let a = corners[0] as usize;
     let b = corners[1] as usize;
     let c = corners[2] as usize;
-    add_spoke(&mut *points, vertices, a, b);
-    add_spoke(&mut *points, vertices, b, c);
-    add_spoke(&mut *points, vertices, c, a);
+    add_point(&mut *points, vertices, a, b);
+    add_point(&mut *points, vertices, b, c);
+    add_point(&mut *points, vertices, c, a);
 }
 
 // The spokes of every halfedge, triangle by triangle.

@@ -1,63 +1,48 @@
-// The pass that makes a vertex's sums its new place.
+// The third pass over a level: every vertex's sums become its new place inside. Where it lies on a border, the last pass puts
+// another there.
 ghost use mathlib.Core.Path.{_≡_};
-ghost use Prim.Native.Nat.{ℕ, _+_, _*_, _≤_, _<_};
-ghost use lib.ListN.{length};
+ghost use Prim.Native.Nat.{ℕ, _+_, _*_, _<_, _≤_};
+ghost use lib.ListN.{length, set};
 ghost use Rattle.laws.specs.Steps.{steps};
-ghost use Rattle.points.specs.NextPoints.{coordinate};
-ghost use Rattle.points.specs.Passes.{value, settled, Settles, settle, SettlesAt};
-use crate::cells::put_point;
-use crate::rules::border_vertex;
+ghost use Rattle.points.specs.PointRules.{V3};
+ghost use Rattle.points.specs.Passes.{value, Settles, settle, SettlesAt};
+use crate::rules::added_vertex;
 use crate::rules::inner_vertex;
 
-// One coordinate of a vertex's new place: by V.2 where its count is 0, else by V.3.
-fn new_place(count: i32, vertex: i32, sum: i32) -> i32
-    requires { ⌜ Settles count vertex sum ⌝ }
-    ensures { λ r. ⌜ r ≡ settled count vertex sum ⌝ }
+// Cell i of the new places, of a vertex with so many corners.
+fn settle_own(points: &mut [i32], start: usize, i: usize, corners: u32)
+    requires { ⌜ (start + i < length (now points)) × (Settles corners (value (now points) i) (value (now points) (start + i))) ⌝ }
+    ensures { λ _. ⌜ now (points .exit) ≡ set (now (points .entry)) (start + i) (V3 corners (value (now (points .entry)) i) (value (now (points .entry)) (start + i))) ⌝ }
 {
-    let place = vertex as i64;
-    let total = sum as i64;
-    if count == 0 {
-        return border_vertex(place, total);
+    let place = points[i] as i64;
+    let sum = points[start + i] as i64;
+    points[start + i] = inner_vertex(corners as i64, place, sum);
+}
+
+// The same of a vertex with six.
+fn settle_added(points: &mut [i32], start: usize, i: usize)
+    requires { ⌜ (start + i < length (now points)) × (Settles 6 (value (now points) i) (value (now points) (start + i))) ⌝ }
+    ensures { λ _. ⌜ now (points .exit) ≡ set (now (points .entry)) (start + i) (V3 6 (value (now (points .entry)) i) (value (now (points .entry)) (start + i))) ⌝ }
+{
+    let place = points[i];
+    let sum = points[start + i];
+    points[start + i] = added_vertex(place, sum);
+}
+
+// Every vertex's: the cage's own by their listed corners, and those added since by six.
+pub fn settle_vertices(own: &[u32], points: &mut [i32], vertices: usize)
+    requires { ⌜ (length (now own) ≤ vertices) × (6 * vertices ≤ length (now points)) × ((i : ℕ) → i < 3 * vertices → SettlesAt (now own) vertices i (now points)) ⌝ }
+    ensures { λ _. ⌜ now (points .exit) ≡ steps (3 * vertices) (settle (now (own .entry)) vertices) (now (points .entry)) ⌝ }
+{
+    let cells = 3 * vertices;
+    let own_cells = 3 * own.len();
+    let mut i = 0;
+    while i < own_cells {
+        settle_own(&mut *points, cells, i, own[i / 3]);
+        i += 1;
     }
-    // most vertices have six corners: a division by a number that is known here is quicker
-    if count == 6 {
-        return inner_vertex(6, place, total);
-    }
-    let corners = count as i64;
-    inner_vertex(corners, place, total)
-}
-
-// Coordinate k of a vertex's new place.
-fn new_coordinate(points: &[i32], vertices: usize, vertex: usize, k: usize) -> i32
-    requires { ⌜ (vertex < vertices) × (k < 3) × (7 * vertices ≤ length (now points)) × (SettlesAt vertices vertex (now points)) ⌝ }
-    ensures { λ r. ⌜ r ≡ settled (value (now (points .entry)) (6 * vertices + vertex)) (coordinate (now (points .entry)) k vertex) (value (now (points .entry)) (3 * vertices + 3 * vertex + k)) ⌝ }
-{
-    let count = points[6 * vertices + vertex];
-    let place = points[3 * vertex + k];
-    let sum = points[3 * vertices + 3 * vertex + k];
-    new_place(count, place, sum)
-}
-
-// A vertex's new place, where its sums were.
-fn settle_vertex(points: &mut [i32], vertices: usize, vertex: usize)
-    requires { ⌜ (vertex < vertices) × (7 * vertices ≤ length (now points)) × (SettlesAt vertices vertex (now points)) ⌝ }
-    ensures { λ _. ⌜ now (points .exit) ≡ settle vertices vertex (now (points .entry)) ⌝ }
-{
-    let x = new_coordinate(&*points, vertices, vertex, 0);
-    let y = new_coordinate(&*points, vertices, vertex, 1);
-    let z = new_coordinate(&*points, vertices, vertex, 2);
-    let place = 3 * vertices + 3 * vertex;
-    put_point(&mut *points, place, x, y, z);
-}
-
-// Every vertex's.
-pub fn settle_vertices(points: &mut [i32], vertices: usize)
-    requires { ⌜ (7 * vertices ≤ length (now points)) × ((v : ℕ) → v < vertices → SettlesAt vertices v (now points)) ⌝ }
-    ensures { λ _. ⌜ now (points .exit) ≡ steps vertices (settle vertices) (now (points .entry)) ⌝ }
-{
-    let mut vertex = 0;
-    while vertex < vertices {
-        settle_vertex(&mut *points, vertices, vertex);
-        vertex += 1;
+    while i < cells {
+        settle_added(&mut *points, cells, i);
+        i += 1;
     }
 }

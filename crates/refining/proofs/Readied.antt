@@ -1,19 +1,19 @@
 -- The tables of all levels, and a table with the cage's points in front, are ready for the points of all levels (`readied`), which
 -- cover the cage's (`covered`). Assumes nothing.
 use Prim.Native.Nat.{ℕ, zero, suc, _*_, _≤_}
-use mathlib.Core.Path.{_≡_, sym}
+use mathlib.Core.Path.{_≡_, sym, subst}
 use mathlib.Core.List.{List}
 use native.Mathlib.Omega.{arith}
 use lib.IntN.{ℤ}
 use lib.ListN.{length, take, drop}
 use lib.Seq.{take-append-seam}
-use Rattle.laws.specs.Below.{endToEnd, sum}
+use Rattle.laws.specs.Below.{tabulate, endToEnd, sum}
 use Rattle.laws.specs.Parts.{inFront}
 use Rattle.laws.proofs.Parts.{length-inFront}
 use Rattle.laws.proofs.InFront.{part-inFront, inFront-over}
 use Rattle.laws.proofs.Sums.{sum-grows}
 use Rattle.laws.proofs.Tabulate.{length-tabulate}
-use Rattle.laws.proofs.EndToEnd.{part-of, length-multiples}
+use Rattle.laws.proofs.EndToEnd.{part-of, starts-within, length-multiples}
 use Rattle.halfedges.specs.declared.table.HalfedgeTable.{HalfedgeTable}
 use Rattle.halfedges.specs.Refusals.{DONE}
 use Rattle.halfedges.specs.Counts.{countsAt, Vs, roomV}
@@ -22,10 +22,11 @@ use Rattle.connectivity.specs.NextLevel.{level}
 use Rattle.connectivity.specs.InPlace.{Sound, tablesInFront}
 use Rattle.connectivity.specs.Operations.{levelsEndToEnd}
 use Rattle.connectivity.proofs.Granted.{Granted, granted}
-use Rattle.points.specs.NextPoints.{nextPoints, levelPoints}
+use Rattle.points.specs.NextPoints.{corners, nextPoints, levelPoints}
 use Rattle.points.specs.Operations.{vertices, refineVerdict}
+use Rattle.points.specs.Relied.{Known}
 use Rattle.points.specs.Levels.{ReadyLevels, cageOf, withLevels}
-use Rattle.refining.proofs.Relying.{relied}
+use Rattle.refining.proofs.Relying.{relied, known}
 use Rattle.refining.proofs.Refined.{whole, tables-done, in-range, both-done, points-roomy}
 
 module _ (t : HalfedgeTable) (c : Tables) (s : Sound t c) (depth : ℕ) (x : Tables) where
@@ -40,6 +41,13 @@ module _ (t : HalfedgeTable) (c : Tables) (s : Sound t c) (depth : ℕ) (x : Tab
       (first-there (λ d. level t c d .twin) (x .twin) (s .twin-long) i)
       (first-there (λ d. level t c d .vert) (x .vert) (s .vert-long) i)
       (first-there (λ d. level t c d .edge) (x .edge) (s .edge-long) i)
+
+  pub cage-fits : t .halfedges ≤ length (tablesInFront (levelsEndToEnd t c depth) x .vert)
+  unfolding tablesInFront levelsEndToEnd level
+  cage-fits =
+      let f : ℕ → List ℕ = λ d. level t c d .vert in
+      let w = starts-within (c .vert) (inFront (endToEnd (suc depth) f) (x .vert)) (rw (s .vert-long) (first-there f (x .vert) (s .vert-long))) in
+      omega (arith, s .vert-long)
 
 module _ (c : Tables) (points : List ℤ) (depth : ℕ) (x : Tables) (xp : List ℤ) (e : refineVerdict c points depth x xp ≡ DONE) where
   abbrev t : HalfedgeTable
@@ -66,10 +74,14 @@ module _ (c : Tables) (points : List ℤ) (depth : ℕ) (x : Tables) (xp : List 
       record {
         counts = g .small;
         deep = g .shallow;
+        cage-long = cage-fits t c (g .sound) depth x;
         twins = rw (cage-there t c (g .sound) depth x) (take-append-seam (levelsEndToEnd t c depth .twin) _);
         verts = rw (cage-there t c (g .sound) depth x) (take-append-seam (levelsEndToEnd t c depth .vert) _);
         edges = rw (cage-there t c (g .sound) depth x) (take-append-seam (levelsEndToEnd t c depth .edge) _);
         relied = λ d l. rw (cage-there t c (g .sound) depth x) (relied c (vertices points) depth (tables-done c points depth (both-done c points depth x xp e .0)) d (omega (arith, g .shallow)));
+        known = λ d l.
+            subst (λ q. Known (tabulate (vertices points) (λ u. length (corners (q .vert) u))) (level t q d .twin) (level t q d .vert) (Vs t d)) (sym (cage-there t c (g .sound) depth x))
+            (known c (vertices points) depth (tables-done c points depth (both-done c points depth x xp e .0)) d (omega (arith, g .shallow)));
         in-range = rw points-there (in-range c points depth (both-done c points depth x xp e .0));
         room = rw (length-inFront points xp (omega (arith, points-fit, points-roomy c points depth x xp e))) (points-roomy c points depth x xp e);
       }

@@ -1,4 +1,5 @@
 -- A numerator and its denominator, both scaled by one number, have the same floor and round alike: `floor-scaled`, `round-scaled`.
+-- A scaled sum is the sum of the scaled: `scaled-sum`.
 -- So a rounding over an even denominator is the floor with half a denominator more: `round-half`. Assumes nothing.
 use Prim.Native.Nat.{ℕ, zero, suc, _+_, _*_, _/_, _<_}
 use mathlib.Core.Path.{_≡_, sym, ap, _∙_}
@@ -20,7 +21,7 @@ floor-scaled (suc c) some (negsuc a) k =
     let e : suc c * suc a ≡ suc (suc c * a + c) = omega (arith, mul-suc (suc c) a) in
     rw e (ap negsuc (quotient-scaled c a k))
 
-scaled-sum : (c : ℕ) (a b : ℤ) → pos c *ℤ (a +ℤ b) ≡ pos c *ℤ a +ℤ pos c *ℤ b
+pub scaled-sum : (c : ℕ) (a b : ℤ) → pos c *ℤ (a +ℤ b) ≡ pos c *ℤ a +ℤ pos c *ℤ b
 scaled-sum zero a b = rw (zero-*ℤ (a +ℤ b), zero-*ℤ a, zero-*ℤ b)
 scaled-sum (suc c) a b =
     sucℤ-*ℤ (pos c) (a +ℤ b)

@@ -1,18 +1,21 @@
--- `write_edges` takes three steps of its definition a turn, of a triangle's halfedges.
-use Prim.Native.Nat.{_-_, _*_, _≤_}
-use mathlib.Core.Path.{_≡_, refl, sym, subst}
+-- `write_edges` takes three steps of its definition a turn, of a triangle's halfedges; the level's points stay where they are.
+use Prim.Native.Nat.{ℕ, _+_, _-_, _*_, _≤_, _<_}
+use mathlib.Core.Path.{_≡_, refl, sym, ap, _∙_, subst}
+use mathlib.Core.List.{List}
+use native.Mathlib.Nat.{le-refl}
 use native.Mathlib.Omega.{arith}
+use lib.IntN.{ℤ}
 use lib.ListN.{length}
 use borrow.Author.Needs.{needs}
 use Rattle.laws.specs.Steps.{steps}
 use Rattle.laws.proofs.Steps.{steps-none, steps-three-on, steps-end}
-use Rattle.points.specs.Passes.{Edged, putEdge, putTriangle}
-use Rattle.points.proofs.Writes.{edged-steps}
+use Rattle.points.specs.Passes.{Edged, putEdge, putTriangle, StartedTriangle}
+use Rattle.points.proofs.Writes.{triangle-asks, triangle-same}
 use Rattle.points.proofs.edges.write_edges.Statement.{statement}
 use Rattle.points.proofs.edges.write_edges.Tie as tie
 
 abbrev Inv-loop : tie.InvT-loop
-Inv-loop twin vert edge points₀ vertices triangles triangle₀ points triangle = (triangle ≤ triangles) × (length points ≡ length points₀) × (points ≡ steps (3 * triangle) (putEdge twin vert edge vertices) points₀)
+Inv-loop twin vert edge points₀ vertices triangles triangle₀ points triangle = (triangle ≤ triangles) × (length points ≡ length points₀) × (points ≡ steps (3 * triangle) (putEdge twin vert edge vertices points₀) points₀)
 
 abbrev μ-loop : tie.MeasureT-loop
 μ-loop twin vert edge points₀ vertices triangles triangle₀ points triangle = triangles - triangle
@@ -24,10 +27,11 @@ write-triangle-requires : tie.Need-write-triangle-requires Inv-loop μ-loop
 write-triangle-requires c κs =
     let b = c .before .before in
     let s = b .before .before .before .before in
-    let whole = s .pre .cornered .whole in (
-      subst (Edged (s .args .twin .now) (s .args .vert .now) (s .args .edge .now) (s .args .vertices)) (sym (b .loop .inv .2)) (edged-steps _ _ _ _ (s .args .points .now) (s .pre) (3 * b .loop .triangle) (omega arith)),
-      omega arith,
-    )
+    let n = s .args .vertices in
+    let t = b .loop .triangle in
+    let inside : 3 * b .loop .triangle + 2 < length (s .args .vert .now) = omega (arith, s .pre .0 .cornered .whole) in
+    subst (λ m. Edged (s .args .twin .now) (s .args .vert .now) (s .args .edge .now) n m × (3 * t + 2 < length (s .args .vert .now)) × StartedTriangle (s .args .twin .now) (s .args .vert .now) (s .args .edge .now) n m t m) (sym (b .loop .inv .2))
+    (triangle-asks (s .args .twin .now) (s .args .vert .now) (s .args .edge .now) n (s .args .points .now) (s .pre .0) t inside (s .pre .1))
 
 add-triangle : tie.Need-add-triangle Inv-loop μ-loop
 add-triangle c = search needs
@@ -36,16 +40,19 @@ loop-less : tie.Need-loop-less Inv-loop μ-loop
 loop-less c = search needs
 
 loop-again : tie.Need-loop-again Inv-loop μ-loop
-unfolding putTriangle
 loop-again c =
     let b = c .before .before .before .before in
-    (omega arith, search needs, steps-three-on _ _ _ (b .loop .inv .2) (c .before .write-triangle .ensures))
+    let s = b .before .before .before .before in
+    let n = s .args .vertices in
+    let t = b .loop .triangle in
+    let inside : 3 * b .loop .triangle + 2 < length (s .args .vert .now) = omega (arith, s .pre .0 .cornered .whole) in
+    (omega arith, search needs, triangle-same (s .args .twin .now) (s .args .vert .now) (s .args .edge .now) n (s .args .points .now) (s .pre .0) t inside (b .loop .inv .2) (c .before .write-triangle .ensures))
 
 same-length : tie.Need-same-length Inv-loop μ-loop
 same-length c = search needs
 
 returns : tie.Need-returns Inv-loop μ-loop
-returns c = steps-end _ _ (c .before .loop .inv .2) (omega (arith, c .before .before .before .before .before .pre .cornered .whole))
+returns c = steps-end _ _ (c .before .loop .inv .2) (omega (arith, c .before .before .before .before .before .pre .0 .cornered .whole))
 
 pub write-edges-spec : {M : Type 1} → statement M
 write-edges-spec =

@@ -22,14 +22,14 @@ part-next-points-end : tie.Need-part-next-points-end
 part-next-points-end c = search needs
 
 next-points-requires : tie.Need-next-points-requires
-next-points-requires c κs = let s = c .before .before .before .before in ready-part _ _ _ _ (s .pre)
+next-points-requires c κs = let s = c .before .before .before .before .before in ready-part _ _ _ _ (s .pre)
 
 same-length : tie.Need-same-length
 same-length c = search needs
 
 returns : tie.Need-returns
 returns c =
-    let s = c .before .before .before .before .before .before in
+    let s = c .before .before .before .before .before .before .before in
     let l = s .args .points .now in
     ap (putMid (s .args .at) (length l - s .args .at) l) (c .before .next-points .ensures)
     ∙ part-back (s .args .table) (tables (s .args .twin .now) (s .args .vert .now) (s .args .edge .now)) (s .args .at) l

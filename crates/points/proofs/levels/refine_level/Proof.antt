@@ -50,7 +50,7 @@ part-next-level-end-3 c = search needs
 
 next-level-requires : tie.Need-next-level-requires
 next-level-requires c κs =
-    let s = c .before .before .before .before .before .before .before .before in
+    let s = c .before .before .before .before .before .before .before .before .before in
     rw (span (s .args .start) (s .args .table .halfedges)) (s .pre .3)
 
 same-length : tie.Need-same-length
@@ -58,7 +58,7 @@ same-length c = search needs
 
 returns : tie.Need-returns
 returns c =
-    let s = c .before .before .before .before .before .before .before .before .before .before in
+    let s = c .before .before .before .before .before .before .before .before .before .before .before in
     rw (span (s .args .start) (s .args .table .halfedges)) at (c .before .next-level .ensures)
 
 pub refine-level-spec : {M : Type 1} → statement M

@@ -1,85 +1,61 @@
--- `refine_points` adds one level a turn; the counts, the two starts and the table so far are those of the levels passed.
-use Prim.Native.Nat.{_+_, _-_, _*_, _^_, _≤_, _<_}
-use mathlib.Core.Path.{_≡_, refl, ap, _∙_}
+-- `refine_points` lists the corners of the cage's vertices by a tally of the cage's VERT.
+use Prim.Native.Nat.{_≤_}
+use mathlib.Core.Path.{sym, subst}
 use native.Mathlib.Omega.{arith}
-use lib.ListN.{length}
+use lib.ListN.{length, take, getD-replicate}
+use lib.Seq.{length-take-le}
 use borrow.Author.Needs.{needs}
-use Rattle.halfedges.specs.Cage.{most-halfedges, most-depth}
-use Rattle.halfedges.specs.Counts.{AtMost}
-use Rattle.connectivity.specs.Tables.{tables}
-use Rattle.points.specs.Levels.{withLevels}
-use Rattle.points.proofs.Climbed.{Stands, climb-start, climb-asks, climb-small, climb-end, climb-on}
+use Rattle.halfedges.specs.Cage.{most-halfedges}
+use Rattle.connectivity.specs.Tally.{Tallied}
+use Rattle.points.proofs.Ends.{tally-lists}
 use Rattle.points.proofs.levels.refine_points.Statement.{statement}
 use Rattle.points.proofs.levels.refine_points.Tie as tie
 
-abbrev Inv-loop : tie.InvT-loop
-Inv-loop depth twin vert edge points₀ level₀ counts₀ start₀ at₀ points level counts start at = (level ≤ depth) × (length points ≡ length points₀) × Stands counts₀ (tables twin vert edge) points₀ level counts start at points
+-- the tally, once the corners are counted
+module _ (k : tie.After-count-numbers) where
+  abbrev s : tie.Start
+  s = k .before .before .before .before .before .before
 
-abbrev μ-loop : tie.MeasureT-loop
-μ-loop depth twin vert edge points₀ level₀ counts₀ start₀ at₀ points level counts start at = depth - level
+  enough : s .args .table .vertices ≤ length (k .count-numbers .last .1 .0)
+  enough = let small = s .pre .counts .vertices in search needs
 
--- no count in the loop is above what level 6 can have, and no start is past its table's end
-small : (b : tie.At-loop Inv-loop μ-loop) → b .loop .level < b .before .before .before .before .args .depth → AtMost (4 ^ most-depth * most-halfedges) (b .loop .counts) × (b .loop .at + 3 * b .loop .counts .vertices ≤ length (b .before .before .before .before .args .points .now)) × (b .loop .start + b .loop .counts .halfedges ≤ length (b .before .before .before .before .args .twin .now))
-small b l =
-    let ready = b .before .before .before .before .pre in
-    (climb-small _ _ _ _ ready (b .loop .inv .2) l, climb-end _ _ _ _ ready (b .loop .inv .2) l, climb-asks _ _ _ _ ready (b .loop .inv .2) l .0)
+slice-aggregate-count-numbers : tie.Need-slice-aggregate-count-numbers
+slice-aggregate-count-numbers c = let s = c .before .before .before .before in sym (length-take-le (s .args .table .halfedges) (s .args .vert .now) (s .pre .cage-long))
 
-loop-holds : tie.Need-loop-holds Inv-loop μ-loop
-loop-holds c = (omega arith, refl, climb-start _ _ _ _ (c .before .before .before .pre))
+slice-aggregate-count-numbers-2 : tie.Need-slice-aggregate-count-numbers-2
+slice-aggregate-count-numbers-2 c = search needs
 
-refine-level-requires : tie.Need-refine-level-requires Inv-loop μ-loop
-refine-level-requires c κs =
-    let b = c .before .before in
-    climb-asks _ _ _ _ (b .before .before .before .before .pre) (b .loop .inv .2) (omega arith)
+count-numbers-requires : tie.Need-count-numbers-requires
+count-numbers-requires c κs =
+    let s = c .before .before .before .before .before in
+    (rw (length-take-le (s .args .table .halfedges) (s .args .vert .now) (s .pre .cage-long)) (s .pre .counts .halfedges), record { each = λ x l. getD-replicate 3072 x 0 0 l })
 
-add-start : tie.Need-add-start Inv-loop μ-loop
-add-start c = let b = c .before .before .before .before .before in omega (arith, small b (omega arith))
+array-share-prefix-corners : tie.Need-array-share-prefix-corners
+array-share-prefix-corners c = search needs
 
-mul-at : tie.Need-mul-at Inv-loop μ-loop
-mul-at c = let b = c .before .before .before .before .before .before in omega (arith, small b (omega arith))
+slice-aggregate-refine-levels : tie.Need-slice-aggregate-refine-levels
+slice-aggregate-refine-levels c = let k = c .before .before in sym (length-take-le (s k .args .table .vertices) (k .count-numbers .last .1 .0) (enough k))
 
-add-at : tie.Need-add-at Inv-loop μ-loop
-add-at c = let b = c .before .before .before .before .before .before in omega (arith, small b (omega arith))
+refine-levels-requires : tie.Need-refine-levels-requires
+refine-levels-requires c κs =
+    let k = c .before .before .before in
+    (s k .pre, tally-lists (take (s k .args .table .halfedges) (s k .args .vert .now)) (s k .args .table .vertices) (k .count-numbers .last .1 .0) (enough k) (k .count-numbers .ensures))
 
-finer-requires : tie.Need-finer-requires Inv-loop μ-loop
-finer-requires c κs = let b = c .before .before .before .before .before .before in omega (arith, small b (omega arith))
-
-add-level : tie.Need-add-level Inv-loop μ-loop
-add-level c = search needs
-
-loop-less : tie.Need-loop-less Inv-loop μ-loop
-loop-less c = search needs
-
-loop-again : tie.Need-loop-again Inv-loop μ-loop
-loop-again c =
-    let call = c .before .before .before .before in
-    let b = call .before .before .before in
-    (omega arith, search needs, climb-on _ _ _ _ (b .before .before .before .before .pre) (b .loop .inv .2) (omega arith) (c .finer .ensures) (call .refine-level .ensures))
-
-same-length : tie.Need-same-length Inv-loop μ-loop
+same-length : tie.Need-same-length
 same-length c = search needs
 
-returns : tie.Need-returns Inv-loop μ-loop
-returns c =
-    let b = c .before in
-    let s = b .before .before .before .before in
-    let e : b .loop .level ≡ s .args .depth = omega arith in
-    b .loop .inv .2 .is-table ∙ ap (λ d. withLevels (s .args .table) d (tables (s .args .twin .now) (s .args .vert .now) (s .args .edge .now)) (s .args .points .now)) e
+returns : tie.Need-returns
+returns c = search needs
 
 pub refine-points-spec : {M : Type 1} → statement M
 refine-points-spec =
     tie.close
     (tie.spec
-    Inv-loop
-    μ-loop
-    loop-holds
-    refine-level-requires
-    add-start
-    mul-at
-    add-at
-    finer-requires
-    add-level
-    loop-less
-    loop-again
+    slice-aggregate-count-numbers
+    slice-aggregate-count-numbers-2
+    count-numbers-requires
+    array-share-prefix-corners
+    slice-aggregate-refine-levels
+    refine-levels-requires
     same-length
     returns)

@@ -5,8 +5,8 @@ use lib.IntN.{natAbs, _+ℤ_}
 use lib.Signed.{ltZ-yes}
 use mir.Syntax.{w32, w64}
 use mir.Val.{SFits}
-use mir.Facts.{toZ-ofZ}
-use Rattle.laws.proofs.Integers.{small-fits, back-of}
+use mir.Facts.{toZ-ofZ, sfits-widen}
+use Rattle.laws.proofs.Integers.{small-fits, back-of, widened}
 use Rattle.points.specs.PointRules.{E1}
 use Rattle.points.specs.Operations.{most-coordinate}
 use Rattle.points.proofs.Numerators.{E1-numerator}
@@ -20,18 +20,25 @@ module _ (s : tie.Start) where
   fits : SFits w64 (s .args .a +ℤ s .args .b)
   fits = small-fits w64 _ (omega (arith, small))
 
+cast-numerator : tie.Need-cast-numerator
+cast-numerator s = simp (toZ-ofZ (s .fits .a)) (sfits-widen tt (s .fits .a))
+
+cast-numerator-2 : tie.Need-cast-numerator-2
+cast-numerator-2 s = simp (toZ-ofZ (s .fits .b)) (sfits-widen tt (s .fits .b))
+
 add-numerator : tie.Need-add-numerator
-add-numerator s = simp (toZ-ofZ (s .fits .a), toZ-ofZ (s .fits .b)) (fits s)
+add-numerator s = simp (widened (s .fits .a), widened (s .fits .b)) (fits s)
 
 rounded-requires : tie.Need-rounded-requires
-rounded-requires s κs = simp (toZ-ofZ (s .fits .a), toZ-ofZ (s .fits .b), toZ-ofZ (fits s)) (ltZ-yes tt, omega arith, omega (arith, small s))
+rounded-requires s κs = simp (widened (s .fits .a), widened (s .fits .b), toZ-ofZ (fits s)) (ltZ-yes tt, omega arith, omega (arith, small s))
 
 returns : tie.Need-returns
 unfolding E1
 returns c =
     let s = c .before in
-    let e = simp (toZ-ofZ (s .fits .a), toZ-ofZ (s .fits .b), toZ-ofZ (fits s)) at (c .rounded .ensures) in
+    let e = simp (widened (s .fits .a), widened (s .fits .b), toZ-ofZ (fits s)) at (c .rounded .ensures) in
     simp (back-of w32 (c .rounded .result) (c .rounded .ok)) e
 
 pub border-edge-spec : {M : Type 1} → statement M
-border-edge-spec = tie.close (tie.spec add-numerator rounded-requires returns)
+border-edge-spec =
+    tie.close (tie.spec cast-numerator cast-numerator-2 add-numerator rounded-requires returns)

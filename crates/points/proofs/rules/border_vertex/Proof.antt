@@ -1,43 +1,100 @@
--- `border_vertex` rounds V.2's numerator, which the coordinates keep small.
-use Prim.Native.Nat.{_*_, _≤_}
+-- `border_vertex` goes by the same test as its definition; the coordinates keep both numbers small, and what is no place has the mark.
+use Prim.Native.Nat.{_+_, _≤_}
+use mathlib.Core.Path.{_≡_, _∙_}
+use mathlib.Core.Bool.{true, false}
 use native.Mathlib.Omega.{arith}
-use lib.IntN.{pos, natAbs, _+ℤ_, _*ℤ_}
-use lib.Signed.{ltZ-yes}
-use mir.Syntax.{w32, w64}
+use lib.IntN.{ℤ, pos, natAbs, _+ℤ_, _-ℤ_, _*ℤ_}
+use lib.Signed.{leZ}
+use mir.Syntax.{w32}
 use mir.Val.{SFits}
 use mir.Facts.{toZ-ofZ}
-use Rattle.laws.proofs.Integers.{natAbs-mul, small-fits, back-of}
-use Rattle.points.specs.PointRules.{V2}
+use Rattle.laws.proofs.Integers.{natAbs-add, natAbs-mul, small-fits, back-of}
 use Rattle.points.specs.Operations.{most-coordinate}
-use Rattle.points.proofs.Numerators.{V2-numerator}
+use Rattle.points.specs.Passes.{mark, met}
+use Rattle.points.proofs.Numerators.{unmarked-at-most}
 use Rattle.points.proofs.rules.border_vertex.Statement.{statement}
 use Rattle.points.proofs.rules.border_vertex.Tie as tie
 
 module _ (s : tie.Start) where
-  six-fits : SFits w64 (pos 6 *ℤ s .args .vertex)
-  six-fits = small-fits w64 _ (omega (arith, natAbs-mul (pos 6) (s .args .vertex)))
+  abbrev x : ℤ
+  x = s .args .vertex
 
-  small : natAbs (pos 6 *ℤ s .args .vertex +ℤ s .args .sum) ≤ most-coordinate * 8
-  small = V2-numerator most-coordinate (s .args .vertex) (s .args .sum) (s .pre .0) (s .pre .1)
+  abbrev a : ℤ
+  a = s .args .neighbour
 
-  fits : SFits w64 (pos 6 *ℤ s .args .vertex +ℤ s .args .sum)
-  fits = small-fits w64 _ (omega (arith, small))
+  six-fits : SFits w32 (pos 6 *ℤ x)
+  six-fits = small-fits w32 _ (omega (arith, natAbs-mul (pos 6) x))
 
-mul-numerator : tie.Need-mul-numerator
-mul-numerator s = simp (toZ-ofZ (s .fits .vertex)) (six-fits s)
+  sum-fits : SFits w32 (pos 6 *ℤ x +ℤ a)
+  sum-fits = small-fits w32 _ (omega (arith, natAbs-mul (pos 6) x, natAbs-add (pos 6 *ℤ x) a))
 
-add-numerator : tie.Need-add-numerator
-add-numerator s = simp (toZ-ofZ (s .fits .vertex), toZ-ofZ (s .fits .sum), toZ-ofZ (six-fits s)) (fits s)
+  marked-fits : SFits w32 (pos 6 *ℤ x +ℤ a +ℤ pos mark)
+  marked-fits = small-fits w32 _ (omega (arith, natAbs-mul (pos 6) x, natAbs-add (pos 6 *ℤ x) a, natAbs-add (pos 6 *ℤ x +ℤ a) (pos mark)))
 
-rounded-requires : tie.Need-rounded-requires
-rounded-requires s κs = simp (toZ-ofZ (s .fits .vertex), toZ-ofZ (s .fits .sum), toZ-ofZ (six-fits s), toZ-ofZ (fits s)) (ltZ-yes tt, omega arith, omega (arith, small s))
+module _ (c : tie.Else1) where
+  abbrev sum : ℤ
+  sum = c .before .args .now -ℤ pos mark
+
+  second : leZ (c .before .args .now) (pos most-coordinate) ≡ false
+  second = simp (toZ-ofZ (c .before .fits .now)) at (c .if1 .left)
+
+  sum-small : natAbs sum ≤ mark
+  sum-small = unmarked-at-most (c .before .args .now) (c .before .fits .now .sfits) second
+
+  unmarked-fits : SFits w32 sum
+  unmarked-fits = small-fits w32 _ (omega (arith, sum-small))
+
+  small : natAbs (sum +ℤ a (c .before)) ≤ mark + most-coordinate
+  small = omega (arith, sum-small, natAbs-add sum (a (c .before)))
+
+  fits : SFits w32 (sum +ℤ a (c .before))
+  fits = small-fits w32 _ (omega (arith, small))
+
+mul-result : tie.Need-mul-result
+mul-result c = let s = c .before in simp (toZ-ofZ (s .fits .vertex)) (six-fits s)
+
+add-result : tie.Need-add-result
+add-result c = let s = c .before in simp (toZ-ofZ (s .fits .vertex), toZ-ofZ (s .fits .neighbour), toZ-ofZ (six-fits s)) (sum-fits s)
+
+add-result-2 : tie.Need-add-result-2
+add-result-2 c = let s = c .before in simp (toZ-ofZ (s .fits .vertex), toZ-ofZ (s .fits .neighbour), toZ-ofZ (six-fits s), toZ-ofZ (sum-fits s)) (marked-fits s)
 
 returns : tie.Need-returns
-unfolding V2
+unfolding met
 returns c =
     let s = c .before in
-    let e = simp (toZ-ofZ (s .fits .vertex), toZ-ofZ (s .fits .sum), toZ-ofZ (six-fits s), toZ-ofZ (fits s)) at (c .rounded .ensures) in
-    simp (back-of w32 (c .rounded .result) (c .rounded .ok)) e
+    let first : leZ (s .args .now) (pos most-coordinate) ≡ true = simp (toZ-ofZ (s .fits .now)) at (c .if1 .taken) in
+    rw first
+    (simp (toZ-ofZ (s .fits .vertex), toZ-ofZ (s .fits .neighbour), toZ-ofZ (six-fits s), toZ-ofZ (sum-fits s), toZ-ofZ (marked-fits s)))
+
+sub-eighth : tie.Need-sub-eighth
+sub-eighth c = simp (toZ-ofZ (c .before .fits .now)) (unmarked-fits c)
+
+add-eighth : tie.Need-add-eighth
+add-eighth c = simp (toZ-ofZ (c .before .fits .now), toZ-ofZ (c .before .fits .neighbour), toZ-ofZ (unmarked-fits c)) (fits c)
+
+eighth-requires : tie.Need-eighth-requires
+eighth-requires c κs =
+    simp (toZ-ofZ (c .before .fits .now), toZ-ofZ (c .before .fits .neighbour), toZ-ofZ (unmarked-fits c), toZ-ofZ (fits c))
+    (omega (arith, small c))
+
+returns-2 : tie.Need-returns-2
+unfolding met
+returns-2 c =
+    let b = c .before in
+    let s = b .before in
+    let e = simp (toZ-ofZ (s .fits .now), toZ-ofZ (s .fits .neighbour), toZ-ofZ (unmarked-fits b), toZ-ofZ (fits b)) at (c .eighth .ensures) in
+    rw (second b) (back-of w32 (c .eighth .result) (c .eighth .ok) ∙ e)
 
 pub border-vertex-spec : {M : Type 1} → statement M
-border-vertex-spec = tie.close (tie.spec mul-numerator add-numerator rounded-requires returns)
+border-vertex-spec =
+    tie.close
+    (tie.spec
+    mul-result
+    add-result
+    add-result-2
+    returns
+    sub-eighth
+    add-eighth
+    eighth-requires
+    returns-2)

@@ -1,14 +1,9 @@
 -- `add_point` stores three sums of two cells, each worked out before the first store.
 use Prim.Native.Nat.{_+_, _*_}
-use mathlib.Core.Path.{_∙_}
 use native.Mathlib.Omega.{arith}
-use lib.IntN.{_+ℤ_}
 use borrow.Author.Needs.{needs}
-use mir.Syntax.{w32}
-use Rattle.laws.proofs.Integers.{back-of}
-use Rattle.points.specs.NextPoints.{coordinate}
-use Rattle.points.specs.Passes.{value, addPoint, xyz}
-use Rattle.points.proofs.Only.{put-same}
+use Rattle.points.specs.Passes.{addPoint}
+use Rattle.points.proofs.Only.{put-stored}
 use Rattle.points.proofs.Added.{adds-one}
 use Rattle.points.proofs.spokes.add_point.Statement.{statement}
 use Rattle.points.proofs.spokes.add_point.Tie as tie
@@ -47,11 +42,7 @@ returns c =
     let y = z .before .before in
     let x = y .before .before in
     let s = x .before .before in
-    let n = s .args .vertices in
-    let l = s .args .points .now in
-    (simp (back-of w32 (x .sum-of .result) (x .sum-of .ok), back-of w32 (y .sum-of2 .result) (y .sum-of2 .ok), back-of w32 (z .sum-of3 .result) (z .sum-of3 .ok)) at
-    (c .before .put-point .ensures))
-    ∙ put-same (3 * n + 3 * s .args .a) (xyz (x .sum-of .result) (y .sum-of2 .result) (z .sum-of3 .result)) (λ k. value l (3 * n + 3 * s .args .a + k) +ℤ coordinate l k (s .args .b)) l
+    put-stored (3 * s .args .vertices + 3 * s .args .a) _ (s .args .points .now) (x .sum-of .ok) (y .sum-of2 .ok) (z .sum-of3 .ok) (c .before .put-point .ensures)
     (x .sum-of .ensures)
     (y .sum-of2 .ensures)
     (z .sum-of3 .ensures)

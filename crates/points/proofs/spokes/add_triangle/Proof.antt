@@ -1,8 +1,8 @@
--- `add_triangle` adds three spokes, each to what the one before left.
+-- `add_triangle` adds three points, each to what the one before left.
 use mathlib.Core.Path.{sym, ap, _∙_, subst}
 use borrow.Author.Needs.{needs}
 use Rattle.halfedges.specs.Cage.{cell}
-use Rattle.points.specs.Passes.{addSpoke, AddsSpoke, addTriangle}
+use Rattle.points.specs.Passes.{addPoint, Adds, addTriangle}
 use Rattle.points.proofs.spokes.add_triangle.Statement.{statement}
 use Rattle.points.proofs.spokes.add_triangle.Tie as tie
 
@@ -24,22 +24,22 @@ array-read-c c = search needs
 cast-c : tie.Need-cast-c
 cast-c c = search needs
 
-add-spoke-requires : tie.Need-add-spoke-requires
-add-spoke-requires c κs = search needs
+add-point-requires : tie.Need-add-point-requires
+add-point-requires c κs = search needs
 
-add-spoke-requires-2 : tie.Need-add-spoke-requires-2
-add-spoke-requires-2 c κs =
+add-point-requires-2 : tie.Need-add-point-requires-2
+add-point-requires-2 c κs =
     let s = c .before .before .before .before in
     let t = s .args .t3 in
-    subst (AddsSpoke (s .args .vertices) (cell t 1) (cell t 2)) (sym (c .before .before .add-spoke .ensures)) (s .pre .second)
+    subst (Adds (s .args .vertices) (cell t 1) (cell t 2)) (sym (c .before .before .add-point .ensures)) (s .pre .second)
 
-add-spoke-requires-3 : tie.Need-add-spoke-requires-3
-add-spoke-requires-3 c κs =
+add-point-requires-3 : tie.Need-add-point-requires-3
+add-point-requires-3 c κs =
     let one = c .before .before .before .before .before in
     let s = one .before .before in
     let n = s .args .vertices in
     let t = s .args .t3 in
-    subst (AddsSpoke n (cell t 2) (cell t 0)) (sym (c .before .before .add-spoke2 .ensures ∙ ap (addSpoke n (cell t 1) (cell t 2)) (one .add-spoke .ensures))) (s .pre .third)
+    subst (Adds n (cell t 2) (cell t 0)) (sym (c .before .before .add-point2 .ensures ∙ ap (addPoint n (cell t 1) (cell t 2)) (one .add-point .ensures))) (s .pre .third)
 
 same-length : tie.Need-same-length
 same-length c = search needs
@@ -52,8 +52,8 @@ returns c =
     let s = one .before .before in
     let n = s .args .vertices in
     let t = s .args .t3 in
-    c .before .add-spoke3 .ensures
-    ∙ ap (addSpoke n (cell t 2) (cell t 0)) (two .add-spoke2 .ensures ∙ ap (addSpoke n (cell t 1) (cell t 2)) (one .add-spoke .ensures))
+    c .before .add-point3 .ensures
+    ∙ ap (addPoint n (cell t 2) (cell t 0)) (two .add-point2 .ensures ∙ ap (addPoint n (cell t 1) (cell t 2)) (one .add-point .ensures))
 
 pub add-triangle-spec : {M : Type 1} → statement M
 add-triangle-spec =
@@ -65,8 +65,8 @@ add-triangle-spec =
     cast-b
     array-read-c
     cast-c
-    add-spoke-requires
-    add-spoke-requires-2
-    add-spoke-requires-3
+    add-point-requires
+    add-point-requires-2
+    add-point-requires-3
     same-length
     returns)

@@ -11,13 +11,10 @@ use Rattle.points.proofs.spokes.clear_sums.Statement.{statement}
 use Rattle.points.proofs.spokes.clear_sums.Tie as tie
 
 abbrev Inv-loop : tie.InvT-loop
-Inv-loop points₀ vertices start cells i₀ points i = (i ≤ cells) × (length points ≡ length points₀) × (points ≡ steps i (clearCell vertices) points₀)
+Inv-loop points₀ vertices cells i₀ points i = (i ≤ cells) × (length points ≡ length points₀) × (points ≡ steps i (clearCell vertices) points₀)
 
 abbrev μ-loop : tie.MeasureT-loop
-μ-loop points₀ vertices start cells i₀ points i = cells - i
-
-mul-start : tie.Need-mul-start Inv-loop μ-loop
-mul-start c = search needs
+μ-loop points₀ vertices cells i₀ points i = cells - i
 
 mul-cells : tie.Need-mul-cells Inv-loop μ-loop
 mul-cells c = search needs
@@ -60,7 +57,6 @@ clear-sums-spec =
     (tie.spec
     Inv-loop
     μ-loop
-    mul-start
     mul-cells
     loop-holds
     add-points
