@@ -78,7 +78,7 @@ module _ (twin vert edge : List ℕ) (n : ℕ) (points l : List ℤ) (edged : Ed
         where
           by : Dec (cell twin h < h) → value (putEdge twin vert edge n l h m) at ≡ value m at
           by (yes t) =
-              ap (λ y. value y at) (finish-put twin vert edge n l h m t)
+              ap (λ y. value y at) (finish-put twin vert edge n l h m (omega (arith, edged .short)) t)
               ∙ put-only (6 * n + 3 * cell edge h) (λ k. finished (value m (6 * n + 3 * cell edge h + k)) (value r k)) m .other at (λ x y. omega arith)
           by (no t) =
               ap (λ y. value y at) (start-put twin vert edge n l h m (omega (arith, t)) u)
@@ -109,7 +109,7 @@ module _ (twin vert edge : List ℕ) (n : ℕ) (points l : List ℤ) (edged : Ed
           let second : value (meet n (far vert h) q p met-a) at ≡ cond (eqb (far vert h) v) (met (value met-a at) (value q k) (value p k)) (value met-a at) =
           meet-is n (far vert h) q p met-a (rw (meet-only n (cell vert h) p q mid .long) (omega (arith, fits, lb))) v k lk in
           let first : value met-a at ≡ cond (leaves vert v h) (met (value mid at) (value p k) (value q k)) (value mid at) = meet-is n (cell vert h) p q mid (omega (arith, fits, la)) v k lk in
-          ap (λ y. value y at) (border-put twin vert edge n l h m (omega (arith, edged .short)) t)
+          ap (λ y. value y at) (border-put twin vert edge n l h m t)
           ∙ second
           ∙ rw (end-is, from-is) (at-vertex (far vert h) v (λ u. met (value met-a at) (coordinate points k u) (coordinate points k (cell vert h))) (value met-a at))
           ∙ ap twice

@@ -3,7 +3,8 @@
 --     finish-way, border-way, start-way          the three ways of a step, also with the tables' own cells:
 --     finish-put, border-put, start-put
 --     step-only, put-step-only, edged-on, putEdge-same   what a step leaves as it was
---     step-is, step-asks                         a step from what its halfedge reads (`Reads`), and what it asks (`Asks`)
+--     triangle-is, triangle-asked, triangle-readable     a triangle's steps from what was read of it
+--     triangle-asks, triangle-same               the loop over the triangles
 use Prim.Native.Nat.{ℕ, _+_, _*_, _≤_, _<_}
 use mathlib.Core.Path.{_≡_, refl, sym, ap, _∙_, subst}
 use mathlib.Core.Logic.{_≢_}
@@ -14,17 +15,20 @@ use native.Mathlib.Omega.{arith}
 use lib.Dec.{eqb, ltb}
 use lib.IntN.{ℤ, natAbs}
 use lib.ListN.{length, take}
-use borrow.Author.Tests.{eq-eqb, ne-eqb, lt-ltb, le-ltb}
+use borrow.Author.Tests.{eq-eqb, ne-eqb, lt-ltb, le-ltb, eqb-false}
+use Rattle.laws.proofs.Tests.{or-false₃}
 use Rattle.laws.specs.Steps.{steps}
 use Rattle.laws.proofs.Steps.{steps-more, steps-three-on}
 use Rattle.laws.proofs.Cases.{cond-keeps}
 use Rattle.halfedges.specs.Cage.{PREV, marker, cell}
-use Rattle.halfedges.proofs.Triangle.{prev-below}
+use Rattle.halfedges.specs.Corners.{corners}
+use Rattle.halfedges.proofs.Triangle.{prev-below, next-0, next-1, next-2, prev-0, prev-1, prev-2}
+use Rattle.points.specs.declared.edges.Triangle.{Triangle}
 use Rattle.points.specs.PointRules.{E1}
 use Rattle.points.specs.NextPoints.{coordinate, far}
 use Rattle.points.specs.Operations.{most-coordinate}
 use Rattle.points.specs.Relied.{Cornered}
-use Rattle.points.specs.Passes.{value, put, pointOf, Near, met, meet, started, finished, borderEdge, startEdge, finishEdge, stepEdge, putEdge, putTriangle, Edged, Started, StartedTriangle}
+use Rattle.points.specs.Passes.{value, put, pointOf, Near, met, meet, started, finished, borderEdge, startEdge, finishEdge, innerEdge, stepEdge, Asks, triangleOf, stepFirst, stepSecond, stepThird, stepTriangle, AsksTriangle, borderAmong, putEdge, putTriangle, Edged, Started, StartedTriangle}
 use Rattle.points.proofs.Range.{any-in-range}
 use Rattle.points.proofs.Only.{three, Only, only-on, only-wider, only-take, only-steps, put-only}
 use Rattle.points.proofs.Added.{Holds, holds-own, holds-on}
@@ -47,26 +51,30 @@ module _ (n a : ℕ) (p q l : List ℤ) where
 
 -- the three ways of a halfedge h with twin t
 module _ (n h t e a b : ℕ) (p q r l : List ℤ) where
-  pub finish-way : t < h → stepEdge n h t e a b p q r l ≡ finishEdge n e r l
-  unfolding stepEdge
-  finish-way lt = rw (lt-ltb t h lt)
+  pub finish-way : h ≤ marker → t < h → stepEdge n h t e a b p q r l ≡ finishEdge n e r l
+  unfolding stepEdge innerEdge
+  finish-way short lt = rw (ne-eqb t marker (λ m. omega arith), lt-ltb t h lt)
 
-  pub border-way : h ≤ marker → t ≡ marker → stepEdge n h t e a b p q r l ≡ borderEdge n e a b p q l
+  pub border-way : t ≡ marker → stepEdge n h t e a b p q r l ≡ borderEdge n e a b p q l
   unfolding stepEdge
-  border-way short m = rw (m, le-ltb marker h short)
+  border-way m = rw (eq-eqb t marker m)
 
   pub start-way : h ≤ t → t ≢ marker → stepEdge n h t e a b p q r l ≡ startEdge n e p q r l
+  unfolding stepEdge innerEdge
+  start-way le m = rw (ne-eqb t marker m, le-ltb t h le)
+
+  pub inner-way : t ≢ marker → stepEdge n h t e a b p q r l ≡ innerEdge n h t e p q r l
   unfolding stepEdge
-  start-way le m = rw (le-ltb t h le, ne-eqb t marker m)
+  inner-way m = rw (ne-eqb t marker m)
 
   -- the cells that a step can change
   pub step-only : (to : ℕ) → a < n → b < n → 6 * n + 3 * e + 3 ≤ to → Only (3 * n) to l (stepEdge n h t e a b p q r l)
-  unfolding stepEdge finishEdge borderEdge startEdge
+  unfolding stepEdge innerEdge finishEdge borderEdge startEdge
   step-only to la lb le =
-      cond-keeps (Only (3 * n) to l) (ltb t h)
-      (λ _. only-wider (3 * n) to (omega arith) le (put-only (6 * n + 3 * e) (λ k. finished (value l (6 * n + 3 * e + k)) (value r k)) l))
-      (λ _. cond-keeps (Only (3 * n) to l) (eqb t marker)
+      cond-keeps (Only (3 * n) to l) (eqb t marker)
       (λ _. only-on (only-on (only-wider (3 * n) to (omega arith) le middle) (only-wider (3 * n) to (omega arith) (omega arith) (meet-only n a p q _))) (only-wider (3 * n) to (omega arith) (omega arith) (meet-only n b q p _)))
+      (λ _. cond-keeps (Only (3 * n) to l) (ltb t h)
+      (λ _. only-wider (3 * n) to (omega arith) le (put-only (6 * n + 3 * e) (λ k. finished (value l (6 * n + 3 * e + k)) (value r k)) l))
       (λ _. only-wider (3 * n) to (omega arith) le (put-only (6 * n + 3 * e) (λ k. started (value p k) (value q k) (value r k)) l)))
     where
       middle : Only (6 * n + 3 * e) (6 * n + 3 * e + 3) l (put (6 * n + 3 * e) (λ k. E1 (value p k) (value q k)) l)
@@ -114,53 +122,83 @@ module _ (twin vert edge : List ℕ) (n : ℕ) where
     abbrev pub at-opposite : List ℤ
     at-opposite = pointOf points (cell vert (PREV h))
 
-    pub finish-put : cell twin h < h → putEdge twin vert edge n points h m ≡ finishEdge n (cell edge h) at-opposite m
+    pub finish-put : h ≤ marker → cell twin h < h → putEdge twin vert edge n points h m ≡ finishEdge n (cell edge h) at-opposite m
     unfolding putEdge
-    finish-put t = finish-way n h (cell twin h) (cell edge h) (cell vert h) (far vert h) at-from at-end at-opposite m t
+    finish-put short t = finish-way n h (cell twin h) (cell edge h) (cell vert h) (far vert h) at-from at-end at-opposite m short t
 
-    pub border-put : h ≤ marker → cell twin h ≡ marker → putEdge twin vert edge n points h m ≡ borderEdge n (cell edge h) (cell vert h) (far vert h) at-from at-end m
+    pub border-put : cell twin h ≡ marker → putEdge twin vert edge n points h m ≡ borderEdge n (cell edge h) (cell vert h) (far vert h) at-from at-end m
     unfolding putEdge
-    border-put short t = border-way n h (cell twin h) (cell edge h) (cell vert h) (far vert h) at-from at-end at-opposite m short t
+    border-put t = border-way n h (cell twin h) (cell edge h) (cell vert h) (far vert h) at-from at-end at-opposite m t
 
     pub start-put : h ≤ cell twin h → cell twin h ≢ marker → putEdge twin vert edge n points h m ≡ startEdge n (cell edge h) at-from at-end at-opposite m
     unfolding putEdge
     start-put t u = start-way n h (cell twin h) (cell edge h) (cell vert h) (far vert h) at-from at-end at-opposite m t u
 
--- what a step is handed for halfedge h: its cells of the tables, and the points of its triangle
-pub record Reads (twin vert edge : List ℕ) (points : List ℤ) (h t e a b : ℕ) (p q r : List ℤ) : Type 0 where
-  pub twin-is : t ≡ cell twin h
-  pub edge-is : e ≡ cell edge h
-  pub from-is : a ≡ cell vert h
-  pub end-is : b ≡ far vert h
-  pub at-from-is : p ≡ pointOf points (cell vert h)
-  pub at-end-is : q ≡ pointOf points (far vert h)
-  pub at-opposite-is : r ≡ pointOf points (cell vert (PREV h))
+-- none of three is on a border
+pub none-among : (twins : List ℕ) → borderAmong twins ≡ false → (cell twins 0 ≢ marker) × (cell twins 1 ≢ marker) × (cell twins 2 ≢ marker)
+unfolding borderAmong
+none-among twins e = let f = or-false₃ _ _ _ e in (eqb-false _ marker (f .0), eqb-false _ marker (f .1), eqb-false _ marker (f .2))
 
--- what it asks
-abbrev pub Asks : ℕ → ℕ → ℕ → ℕ → ℕ → ℕ → List ℤ → List ℤ → List ℤ → List ℤ → Type 0
-Asks n h t e a b p q r m =
-    ((a < n) × (b < n) × (6 * n + 3 * e + 2 < length m) × Near p × Near q × Near r)
-    × (t < h → (k : ℕ) → k < 3 → natAbs (value m (6 * n + 3 * e + k)) ≤ most-coordinate * 7)
+-- a triangle's steps from what was read of it
+module _ (twin vert edge : List ℕ) (n : ℕ) (l : List ℤ) (t : ℕ) where
+  abbrev read : Triangle
+  read = triangleOf twin vert edge l t
 
-module _ (n : ℕ) {twin vert edge : List ℕ} {points : List ℤ} {h t e a b : ℕ} {p q r : List ℤ} (reads : Reads twin vert edge points h t e a b p q r) where
-  pub step-is : (m : List ℤ) → stepEdge n h t e a b p q r m ≡ putEdge twin vert edge n points h m
+  first-is : (m : List ℤ) → stepFirst n (3 * t) read m ≡ putEdge twin vert edge n l (3 * t) m
   unfolding putEdge
-  step-is m = rw (reads .twin-is, reads .edge-is, reads .from-is, reads .end-is, reads .at-from-is, reads .at-end-is, reads .at-opposite-is)
+  first-is m = rw (next-0 t, prev-0 t)
 
-  pub step-asks : Edged twin vert edge n points → h < length vert → (m : List ℤ) → length m ≡ length points → Started twin edge n h m → Asks n h t e a b p q r m
-  step-asks edged l m long started =
-      let whole = edged .cornered .whole in
-      rw (reads .twin-is, reads .edge-is, reads .from-is, reads .end-is, reads .at-from-is, reads .at-end-is, reads .at-opposite-is) (
-        (
-          edged .cornered .below h l,
-          far-below vert n (edged .cornered) h l,
-          rw long (edged .room h l),
-          near twin vert edge n h points edged l (cell vert h) (edged .cornered .below h l) .1,
-          near twin vert edge n h points edged l (far vert h) (far-below vert n (edged .cornered) h l) .1,
-          near twin vert edge n h points edged l (cell vert (PREV h)) (edged .cornered .below (PREV h) (prev-below whole l)) .1,
-        ),
-        started,
-      )
+  second-is : (m : List ℤ) → stepSecond n (3 * t) read m ≡ putEdge twin vert edge n l (3 * t + 1) m
+  unfolding putEdge
+  second-is m = rw (next-1 t, prev-1 t)
+
+  third-is : (m : List ℤ) → stepThird n (3 * t) read m ≡ putEdge twin vert edge n l (3 * t + 2) m
+  unfolding putEdge
+  third-is m = rw (next-2 t, prev-2 t)
+
+  pub triangle-is : (m : List ℤ) → stepTriangle n (3 * t) read m ≡ putTriangle twin vert edge n l t m
+  unfolding stepTriangle putTriangle
+  triangle-is m =
+      third-is _ ∙ ap (putEdge twin vert edge n l (3 * t + 2)) (second-is _ ∙ ap (putEdge twin vert edge n l (3 * t + 1)) (first-is m))
+
+  module _ (edged : Edged twin vert edge n l) (b : 3 * t + 2 < length vert) where
+    -- what the step of halfedge h asks, with its triangle's other two
+    asks : (h i j : ℕ) → h < length vert → i < length vert → j < length vert → (m : List ℤ) → length m ≡ length l → Started twin edge n h m → Asks n h (cell twin h) (cell edge h) (cell vert h) (cell vert i) (pointOf l (cell vert h)) (pointOf l (cell vert i)) (pointOf l (cell vert j)) m
+    asks h i j lh li lj m long started =
+        record {
+          in-a = edged .cornered .below h lh;
+          in-b = edged .cornered .below i li;
+          inner = record {
+            room = rw long (edged .room h lh);
+            from-near = near twin vert edge n h l edged lh (cell vert h) (edged .cornered .below h lh) .1;
+            end-near = near twin vert edge n h l edged lh (cell vert i) (edged .cornered .below i li) .1;
+            opposite-near = near twin vert edge n h l edged lh (cell vert j) (edged .cornered .below j lj) .1;
+            started-there = started;
+          };
+        }
+
+    step-long : (h : ℕ) → h < length vert → (m : List ℤ) → length m ≡ length l → length (putEdge twin vert edge n l h m) ≡ length l
+    step-long h lh m e = put-step-only twin vert edge n l _ (edged .cornered) h lh (le-refl _) m .long ∙ e
+
+    pub triangle-asked : StartedTriangle twin vert edge n l t l → AsksTriangle n (3 * t) read l
+    triangle-asked started =
+        let h0 : 3 * t < length vert = omega arith in
+        let h1 : 3 * t + 1 < length vert = omega arith in
+        let one = step-long (3 * t) h0 l refl in
+        let two = step-long (3 * t + 1) h1 (putEdge twin vert edge n l (3 * t) l) one in
+        record {
+          whole = omega (arith, edged .short);
+          one = asks (3 * t) (3 * t + 1) (3 * t + 2) h0 h1 b l refl (started .first);
+          two = rw (first-is l) (asks (3 * t + 1) (3 * t + 2) (3 * t) h1 b h0 (putEdge twin vert edge n l (3 * t) l) one (started .second));
+          three = rw (first-is l, second-is (putEdge twin vert edge n l (3 * t) l)) (asks (3 * t + 2) (3 * t) (3 * t + 1) b h0 h1 (putEdge twin vert edge n l (3 * t + 1) (putEdge twin vert edge n l (3 * t) l)) two (started .third));
+        }
+
+    -- and reading it
+    pub triangle-readable : ((i : ℕ) → i < 3 → 3 * cell (corners vert t) i + 2 < length l)
+    triangle-readable = three (λ i. 3 * cell (corners vert t) i + 2 < length l) (at (3 * t) (omega arith)) (at (3 * t + 1) (omega arith)) (at (3 * t + 2) b)
+      where
+        at : (h : ℕ) → h < length vert → 3 * cell vert h + 2 < length l
+        at h lh = near twin vert edge n h l edged lh (cell vert h) (edged .cornered .below h lh) .0
 
 -- the loop over the triangles
 module _ (twin vert edge : List ℕ) (n : ℕ) (l : List ℤ) (edged : Edged twin vert edge n l) where

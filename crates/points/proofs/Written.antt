@@ -94,10 +94,10 @@ module _ (twin vert edge : List ℕ) (n : ℕ) (points l : List ℤ) (edged : Ed
       where
         by : Dec (cell twin h < h) → Dec (cell twin h ≡ marker) → value (putEdge twin vert edge n l h m) at ≡ value m at
         by (yes t) _ =
-            ap (λ y. value y at) (finish-put twin vert edge n l h m t)
+            ap (λ y. value y at) (finish-put twin vert edge n l h m (omega (arith, below-marker)) t)
             ∙ put-only (6 * n + 3 * cell edge h) (λ k. finished (value m (6 * n + 3 * cell edge h + k)) (value r k)) m .other at (λ x y. d (omega arith))
         by (no _) (yes t) =
-            ap (λ y. value y at) (border-put twin vert edge n l h m (omega (arith, below-marker)) t)
+            ap (λ y. value y at) (border-put twin vert edge n l h m t)
             ∙ border-at
             ∙ put-only (6 * n + 3 * cell edge h) (λ k. E1 (value p k) (value q k)) m .other at (λ x y. d (omega arith))
         by (no t) (no u) =
@@ -110,7 +110,7 @@ module _ (twin vert edge : List ℕ) (n : ℕ) (points l : List ℤ) (edged : Ed
     border-hit : cell edge h ≡ c → cell twin h ≡ marker → value (putEdge twin vert edge n l h m) at ≡ edgePoint twin vert points h k
     unfolding edgePoint
     border-hit e t =
-        ap (λ y. value y at) (border-put twin vert edge n l h m (omega (arith, below-marker)) t) ∙ border-at
+        ap (λ y. value y at) (border-put twin vert edge n l h m t) ∙ border-at
         ∙ ap (λ e. value (put (6 * n + 3 * e) (λ k. E1 (value p k) (value q k)) m) at) e
         ∙ put-hit (6 * n + 3 * c) (λ k. E1 (value p k) (value q k)) m fits k lk
         ∙ rw (from-is h k b lk, end-is h k b lk, eq-eqb _ marker t)
@@ -126,7 +126,7 @@ module _ (twin vert edge : List ℕ) (n : ℕ) (points l : List ℤ) (edged : Ed
     finish-hit : cell edge h ≡ c → cell twin h < h → value (putEdge twin vert edge n l h m) at ≡ finished (value m at) (coordinate points k (cell vert (PREV h)))
     unfolding finishEdge
     finish-hit e t =
-        ap (λ y. value y at) (finish-put twin vert edge n l h m t)
+        ap (λ y. value y at) (finish-put twin vert edge n l h m (omega (arith, below-marker)) t)
         ∙ ap (λ e. value (put (6 * n + 3 * e) (λ k. finished (value m (6 * n + 3 * e + k)) (value r k)) m) at) e
         ∙ put-hit (6 * n + 3 * c) (λ k. finished (value m (6 * n + 3 * c + k)) (value r k)) m fits k lk
         ∙ ap (finished (value m at)) (opposite-is h k b lk)

@@ -11,7 +11,9 @@ use lib.IntN.{ℤ, pos, natAbs, _+ℤ_, _-ℤ_, _*ℤ_}
 use lib.Signed.{leZ}
 use lib.ListN.{length, getD, take, set}
 use Rattle.rounding.specs.Rounding.{round}
+use Rattle.points.specs.declared.edges.Triangle.{Triangle}
 use Rattle.halfedges.specs.Cage.{PREV, marker, cell, border}
+use Rattle.halfedges.specs.Corners.{corners}
 use Rattle.points.specs.PointRules.{E1, V3}
 use Rattle.points.specs.NextPoints.{coordinate, far}
 use Rattle.points.specs.Operations.{most-coordinate}
@@ -120,9 +122,61 @@ startEdge n e p q r l = put (6 * n + 3 * e) (λ k. started (value p k) (value q 
 unfoldable pub finishEdge : ℕ → ℕ → List ℤ → List ℤ → List ℤ
 finishEdge n e r l = put (6 * n + 3 * e) (λ k. finished (value l (6 * n + 3 * e + k)) (value r k)) l
 
--- halfedge h with twin t, of edge e, from vertex a to b
+-- halfedge h with twin t, of edge e, at p and q with opposite corner r
+unfoldable pub innerEdge : ℕ → ℕ → ℕ → ℕ → List ℤ → List ℤ → List ℤ → List ℤ → List ℤ
+innerEdge n h t e p q r l = cond (ltb t h) (finishEdge n e r l) (startEdge n e p q r l)
+
+-- there is room, the points are in range, and where h is the higher halfedge of its edge, the lower one has been there
+pub record AsksInner (n h t e : ℕ) (p q r l : List ℤ) : Type 0 where
+  pub room : 6 * n + 3 * e + 2 < length l
+  pub from-near : Near p
+  pub end-near : Near q
+  pub opposite-near : Near r
+  pub started-there : t < h → (k : ℕ) → k < 3 → natAbs (value l (6 * n + 3 * e + k)) ≤ most-coordinate * 7
+
+-- with or without a twin, from vertex a to b
 unfoldable pub stepEdge : ℕ → ℕ → ℕ → ℕ → ℕ → ℕ → List ℤ → List ℤ → List ℤ → List ℤ → List ℤ
-stepEdge n h t e a b p q r l = cond (ltb t h) (finishEdge n e r l) (cond (eqb t marker) (borderEdge n e a b p q l) (startEdge n e p q r l))
+stepEdge n h t e a b p q r l = cond (eqb t marker) (borderEdge n e a b p q l) (innerEdge n h t e p q r l)
+
+pub record Asks (n h t e a b : ℕ) (p q r l : List ℤ) : Type 0 where
+  pub in-a : a < n
+  pub in-b : b < n
+  pub inner : AsksInner n h t e p q r l
+
+-- what a triangle has of the tables, and its corners' points
+abbrev pub triangleOf : List ℕ → List ℕ → List ℕ → List ℤ → ℕ → Triangle
+triangleOf twin vert edge points t =
+    record {
+      twins = corners twin t;
+      edges = corners edge t;
+      corners = corners vert t;
+      first = pointOf points (cell vert (3 * t));
+      second = pointOf points (cell vert (3 * t + 1));
+      third = pointOf points (cell vert (3 * t + 2));
+    }
+
+-- its halfedges h, h + 1 and h + 2
+abbrev pub stepFirst : ℕ → ℕ → Triangle → List ℤ → List ℤ
+stepFirst n h x l = stepEdge n h (cell (x .twins) 0) (cell (x .edges) 0) (cell (x .corners) 0) (cell (x .corners) 1) (x .first) (x .second) (x .third) l
+
+abbrev pub stepSecond : ℕ → ℕ → Triangle → List ℤ → List ℤ
+stepSecond n h x l = stepEdge n (h + 1) (cell (x .twins) 1) (cell (x .edges) 1) (cell (x .corners) 1) (cell (x .corners) 2) (x .second) (x .third) (x .first) l
+
+abbrev pub stepThird : ℕ → ℕ → Triangle → List ℤ → List ℤ
+stepThird n h x l = stepEdge n (h + 2) (cell (x .twins) 2) (cell (x .edges) 2) (cell (x .corners) 2) (cell (x .corners) 0) (x .third) (x .first) (x .second) l
+
+unfoldable pub stepTriangle : ℕ → ℕ → Triangle → List ℤ → List ℤ
+stepTriangle n h x l = stepThird n h x (stepSecond n h x (stepFirst n h x l))
+
+pub record AsksTriangle (n h : ℕ) (x : Triangle) (l : List ℤ) : Type 0 where
+  pub whole : h + 2 < 2 ^ 32
+  pub one : Asks n h (cell (x .twins) 0) (cell (x .edges) 0) (cell (x .corners) 0) (cell (x .corners) 1) (x .first) (x .second) (x .third) l
+  pub two : Asks n (h + 1) (cell (x .twins) 1) (cell (x .edges) 1) (cell (x .corners) 1) (cell (x .corners) 2) (x .second) (x .third) (x .first) (stepFirst n h x l)
+  pub three : Asks n (h + 2) (cell (x .twins) 2) (cell (x .edges) 2) (cell (x .corners) 2) (cell (x .corners) 0) (x .third) (x .first) (x .second) (stepSecond n h x (stepFirst n h x l))
+
+-- one of three halfedges has no twin
+unfoldable pub borderAmong : List ℕ → Bool
+borderAmong twins = eqb (cell twins 0) marker || eqb (cell twins 1) marker || eqb (cell twins 2) marker
 
 -- 4: halfedge h, with the points of a level
 unfoldable pub putEdge : List ℕ → List ℕ → List ℕ → ℕ → List ℤ → ℕ → List ℤ → List ℤ

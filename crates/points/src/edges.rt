@@ -1,12 +1,15 @@
 // The last pass over a level: every edge's point, by a part from each of its two halfedges, and the border's vertices.
 ghost use mathlib.Core.Path.{_≡_};
+ghost use mathlib.Core.Bool.{false};
 ghost use Prim.Native.Nat.{ℕ, _+_, _*_, _<_, _≤_};
 ghost use lib.IntN.{natAbs};
 ghost use lib.ListN.{length};
 ghost use Rattle.laws.specs.Steps.{steps};
+ghost use Rattle.halfedges.specs.Cage.{cell};
+ghost use Rattle.halfedges.specs.Corners.{corners};
 ghost use Rattle.points.specs.PointRules.{E1};
 ghost use Rattle.points.specs.Operations.{most-coordinate};
-ghost use Rattle.points.specs.Passes.{value, put, Near, started, finished, met, borderEdge, stepEdge, Edged, Started, putEdge, putTriangle, StartedTriangle};
+ghost use Rattle.points.specs.Passes.{value, put, Near, started, finished, met, borderEdge, innerEdge, AsksInner, stepEdge, Asks, triangleOf, stepTriangle, AsksTriangle, borderAmong, Edged, Started, putEdge, putTriangle, StartedTriangle};
 use crate::cells::point_of;
 use crate::cells::put_point;
 use crate::rules::border_edge;
@@ -78,37 +81,193 @@ fn put_border(
     meet_one(&mut *points, 3 * vertices + 3 * b, q, p);
 }
 
-// A halfedge with its twin, of an edge, from vertex a to vertex b, with its ends at p and q and its opposite corner at r.
+// A halfedge that has a twin, of an edge, with its ends at p and q and its opposite corner at r.
+fn step_inner(
+    points: &mut [i32],
+    vertices: usize,
+    halfedge: usize,
+    twin: u32,
+    number: u32,
+    p: [i32; 3],
+    q: [i32; 3],
+    r: [i32; 3],
+)
+    requires { ⌜ AsksInner vertices halfedge twin number p q r (now points) ⌝ }
+    ensures { λ _. ⌜ now (points .exit) ≡ innerEdge vertices halfedge twin number p q r (now (points .entry)) ⌝ }
+{
+    let to = 6 * vertices + 3 * number as usize;
+    if (twin as usize) < halfedge {
+        finish_edge(&mut *points, to, r);
+        return;
+    }
+    start_edge(&mut *points, to, p, q, r);
+}
+
+// Any halfedge, from vertex a to vertex b.
 fn step_edge(
     points: &mut [i32],
     vertices: usize,
     halfedge: usize,
     twin: u32,
     number: u32,
-    a: usize,
-    b: usize,
+    a: u32,
+    b: u32,
     p: [i32; 3],
     q: [i32; 3],
     r: [i32; 3],
 )
-    requires { ⌜ (a < vertices) × (b < vertices) × (6 * vertices + 3 * number + 2 < length (now points)) × (Near p) × (Near q) × (Near r) ⌝ }
-    requires { ⌜ (twin < halfedge → (k : ℕ) → k < 3 → natAbs (value (now points) (6 * vertices + 3 * number + k)) ≤ most-coordinate * 7) ⌝ }
+    requires { ⌜ Asks vertices halfedge twin number a b p q r (now points) ⌝ }
     ensures { λ _. ⌜ now (points .exit) ≡ stepEdge vertices halfedge twin number a b p q r (now (points .entry)) ⌝ }
 {
-    let other = twin as usize;
-    let e = number as usize;
-    if other < halfedge {
-        finish_edge(&mut *points, 6 * vertices + 3 * e, r);
-        return;
-    }
     if twin == HalfedgeTable::NO_TWIN {
-        put_border(&mut *points, vertices, e, a, b, p, q);
+        put_border(
+            &mut *points,
+            vertices,
+            number as usize,
+            a as usize,
+            b as usize,
+            p,
+            q,
+        );
         return;
     }
-    start_edge(&mut *points, 6 * vertices + 3 * e, p, q, r);
+    step_inner(&mut *points, vertices, halfedge, twin, number, p, q, r);
 }
 
-// A triangle's three halfedges.
+// What a triangle has of the tables, and its corners' points.
+struct Triangle {
+    twins: [u32; 3],
+    edges: [u32; 3],
+    corners: [u32; 3],
+    first: [i32; 3],
+    second: [i32; 3],
+    third: [i32; 3],
+}
+
+fn read_triangle(
+    twin: &[u32],
+    vert: &[u32],
+    edge: &[u32],
+    points: &[i32],
+    triangle: usize,
+) -> Triangle
+    requires { ⌜ (3 * triangle + 2 < length (now twin)) × (3 * triangle + 2 < length (now vert)) × (3 * triangle + 2 < length (now edge)) ⌝ }
+    requires { ⌜ ((i : ℕ) → i < 3 → 3 * cell (corners (now vert) triangle) i + 2 < length (now points)) ⌝ }
+    ensures { λ r. ⌜ r ≡ triangleOf (now (twin .entry)) (now (vert .entry)) (now (edge .entry)) (now (points .entry)) triangle ⌝ }
+{
+    let corners = corners_of(vert, triangle);
+    let twins = corners_of(twin, triangle);
+    let edges = corners_of(edge, triangle);
+    let first = point_of(points, corners[0] as usize);
+    let second = point_of(points, corners[1] as usize);
+    let third = point_of(points, corners[2] as usize);
+    Triangle {
+        twins,
+        edges,
+        corners,
+        first,
+        second,
+        third,
+    }
+}
+
+// A triangle's three halfedges, with one on a border or not.
+fn write_any(points: &mut [i32], vertices: usize, first: usize, triangle: Triangle)
+    requires { ⌜ AsksTriangle vertices first triangle (now points) ⌝ }
+    ensures { λ _. ⌜ now (points .exit) ≡ stepTriangle vertices first triangle (now (points .entry)) ⌝ }
+{
+    let twins = triangle.twins;
+    let edges = triangle.edges;
+    let corners = triangle.corners;
+    let p = triangle.first;
+    let q = triangle.second;
+    let r = triangle.third;
+    step_edge(
+        &mut *points,
+        vertices,
+        first,
+        twins[0],
+        edges[0],
+        corners[0],
+        corners[1],
+        p,
+        q,
+        r,
+    );
+    step_edge(
+        &mut *points,
+        vertices,
+        first + 1,
+        twins[1],
+        edges[1],
+        corners[1],
+        corners[2],
+        q,
+        r,
+        p,
+    );
+    step_edge(
+        &mut *points,
+        vertices,
+        first + 2,
+        twins[2],
+        edges[2],
+        corners[2],
+        corners[0],
+        r,
+        p,
+        q,
+    );
+}
+
+// The same, with none on a border.
+fn write_inner(points: &mut [i32], vertices: usize, first: usize, triangle: Triangle)
+    requires { ⌜ (AsksTriangle vertices first triangle (now points)) × (borderAmong (triangle .twins) ≡ false) ⌝ }
+    ensures { λ _. ⌜ now (points .exit) ≡ stepTriangle vertices first triangle (now (points .entry)) ⌝ }
+{
+    let twins = triangle.twins;
+    let edges = triangle.edges;
+    let p = triangle.first;
+    let q = triangle.second;
+    let r = triangle.third;
+    step_inner(&mut *points, vertices, first, twins[0], edges[0], p, q, r);
+    step_inner(
+        &mut *points,
+        vertices,
+        first + 1,
+        twins[1],
+        edges[1],
+        q,
+        r,
+        p,
+    );
+    step_inner(
+        &mut *points,
+        vertices,
+        first + 2,
+        twins[2],
+        edges[2],
+        r,
+        p,
+        q,
+    );
+}
+
+// Whether one of three halfedges has no twin.
+fn border_among(twins: [u32; 3]) -> bool
+    ensures { λ r. ⌜ r ≡ borderAmong twins ⌝ }
+{
+    if twins[0] == HalfedgeTable::NO_TWIN {
+        return true;
+    }
+    if twins[1] == HalfedgeTable::NO_TWIN {
+        return true;
+    }
+    twins[2] == HalfedgeTable::NO_TWIN
+}
+
+// A triangle's three halfedges. Few triangles lie on a border: the rest go by shorter code, of which the compiler makes one
+// loop without a call.
 fn write_triangle(
     twin: &[u32],
     vert: &[u32],
@@ -120,52 +279,13 @@ fn write_triangle(
     requires { ⌜ (Edged (now twin) (now vert) (now edge) vertices (now points)) × (3 * triangle + 2 < length (now vert)) × (StartedTriangle (now twin) (now vert) (now edge) vertices (now points) triangle (now points)) ⌝ }
     ensures { λ _. ⌜ now (points .exit) ≡ putTriangle (now (twin .entry)) (now (vert .entry)) (now (edge .entry)) vertices (now (points .entry)) triangle (now (points .entry)) ⌝ }
 {
-    let first = 3 * triangle;
-    let corners = corners_of(vert, triangle);
-    let twins = corners_of(twin, triangle);
-    let edges = corners_of(edge, triangle);
-    let a = corners[0] as usize;
-    let b = corners[1] as usize;
-    let c = corners[2] as usize;
-    let p = point_of(&*points, a);
-    let q = point_of(&*points, b);
-    let r = point_of(&*points, c);
-    step_edge(
-        &mut *points,
-        vertices,
-        first,
-        twins[0],
-        edges[0],
-        a,
-        b,
-        p,
-        q,
-        r,
-    );
-    step_edge(
-        &mut *points,
-        vertices,
-        first + 1,
-        twins[1],
-        edges[1],
-        b,
-        c,
-        q,
-        r,
-        p,
-    );
-    step_edge(
-        &mut *points,
-        vertices,
-        first + 2,
-        twins[2],
-        edges[2],
-        c,
-        a,
-        r,
-        p,
-        q,
-    );
+    let read = read_triangle(twin, vert, edge, &*points, triangle);
+    let twins = read.twins;
+    if border_among(twins) {
+        write_any(&mut *points, vertices, 3 * triangle, read);
+        return;
+    }
+    write_inner(&mut *points, vertices, 3 * triangle, read);
 }
 
 // Every halfedge, triangle by triangle.
