@@ -3,6 +3,7 @@ pub mod Rows
 pub mod Fill
 pub mod Triangles
 pub mod Soundness
+pub mod Descent
 pub mod Stages
 pub mod Carriers
 pub mod RuleTests

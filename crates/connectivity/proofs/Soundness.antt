@@ -3,6 +3,7 @@ use Prim.Native.Nat.{ℕ, zero, suc, _+_, _*_, _≤_, _<_}
 use mathlib.Core.Path.{_≡_, refl, ap, _∙_}
 use mathlib.Core.Logic.{_≢_}
 use mathlib.Core.Bool.{Bool, true, false, cond}
+use mathlib.Core.List.{List}
 use native.Mathlib.Decide.{ℕ-discrete}
 use native.Mathlib.Omega.{arith}
 use lib.ListN.{length}
@@ -21,6 +22,14 @@ one-bit : (b : Bool) (x y : ℕ) → x ≤ 1 → y ≤ 1 → cond b x y ≤ 1
 one-bit true x y p q = p
 one-bit false x y p q = q
 
+-- what holds of a twin's number holds of the new twin where it is not the marker
+pub where-twin : (P : ℕ → Type 0) (twin : List ℕ) (h x : ℕ) → (cell twin h ≢ marker → P x) → whereTwin twin h x ≢ marker → P (whereTwin twin h x)
+where-twin P twin h x f = by (ℕ-discrete (cell twin h) marker)
+  where
+    by : Dec (cell twin h ≡ marker) → whereTwin twin h x ≢ marker → P (whereTwin twin h x)
+    by (yes e) = rw (eq-eqb (cell twin h) marker e) (λ m. absurd (m refl))
+    by (no e) = rw (ne-eqb (cell twin h) marker e) (λ m. f e)
+
 module _ (t : HalfedgeTable) (c : Tables) (s : Sound t c) where
   abbrev n : ℕ
   n = t .halfedges
@@ -29,21 +38,13 @@ module _ (t : HalfedgeTable) (c : Tables) (s : Sound t c) where
   Below : ℕ → Type 0
   Below x = x ≢ marker → x < 4 * n
 
-  where-twin : (h x : ℕ) → (cell (c .twin) h ≢ marker → x < 4 * n) → Below (whereTwin (c .twin) h x)
-  unfolding Below
-  where-twin h x f = by (ℕ-discrete (cell (c .twin) h) marker)
-    where
-      by : Dec (cell (c .twin) h ≡ marker) → whereTwin (c .twin) h x ≢ marker → whereTwin (c .twin) h x < 4 * n
-      by (yes e) = rw (eq-eqb (cell (c .twin) h) marker e) (λ m. absurd (m refl))
-      by (no e) = rw (ne-eqb (cell (c .twin) h) marker e) (λ m. f e)
-
   new-twin-below : (k : ℕ) → k < 4 * n → Below (newTwin (c .twin) k)
   unfolding newTwin Below
   new-twin-below k l =
       every-row (length (c .twin)) _ _ _ _ Below
-      (λ h m. where-twin h _ (λ e. omega (arith, next-below (s .whole) (s .twin-below h (rw (s .twin-long) at m) e))))
+      (λ h m. where-twin (λ x. x < 4 * n) (c .twin) h _ (λ e. omega (arith, next-below (s .whole) (s .twin-below h (rw (s .twin-long) at m) e))))
       (λ h m e. omega (arith, s .twin-long))
-      (λ h m. where-twin (PREV h) _ (λ e. omega (arith, s .twin-below (PREV h) (prev-below (s .whole) (rw (s .twin-long) at m)) e)))
+      (λ h m. where-twin (λ x. x < 4 * n) (c .twin) (PREV h) _ (λ e. omega (arith, s .twin-below (PREV h) (prev-below (s .whole) (rw (s .twin-long) at m)) e)))
       (λ h m e. omega (arith, s .twin-long))
       k (rw (s .twin-long) l)
 

@@ -1,6 +1,6 @@
 -- Levels 0 to d end to end in front of the lent tables, and the steps of the loop that fills them in: `reached-start`,
 -- `reached-stands`, `reached-on`, `reached-long`. Assumes nothing.
-use Prim.Native.Nat.{ℕ, suc, _+_, _*_, _^_, _≤_, _<_}
+use Prim.Native.Nat.{ℕ, zero, suc, _+_, _*_, _^_, _≤_, _<_}
 use mathlib.Core.Path.{_≡_, refl, sym, ap, _∙_}
 use mathlib.Core.List.{List}
 use native.Mathlib.Numerals.{add-one}
@@ -18,8 +18,9 @@ use Rattle.halfedges.proofs.Growth.{levels-at-most}
 use Rattle.connectivity.specs.Tables.{Tables, tables}
 use Rattle.connectivity.specs.NextLevel.{next, level}
 use Rattle.connectivity.specs.Operations.{levelsEndToEnd}
-use Rattle.connectivity.specs.InPlace.{levelAt, tablesInFront, withNext, withNextLevel, Sound, Housed, Standing, Refinable}
+use Rattle.connectivity.specs.InPlace.{levelAt, tablesInFront, withNext, withNextLevel, Sound, Housed, CageOrDescended, Standing, Refinable}
 use Rattle.connectivity.proofs.Soundness.{sound-at}
+use Rattle.connectivity.proofs.Descent.{descended}
 
 -- levels 0 to d, and past them what the tables held
 unfoldable pub stage : HalfedgeTable → Tables → ℕ → Tables
@@ -88,6 +89,12 @@ module _ (t : HalfedgeTable) (depth : ℕ) (x : Tables) (r : Refinable t depth x
   unfolding edges
   edges-long d = sound d .edge-long
 
+  -- the cage, or a level that was made of the one before it
+  rows-of : (d : ℕ) (xs : List ℕ) → part xs (sum d (Hs t)) (Hs t d) ≡ level t c d .twin → CageOrDescended (countsAt t d) (sum d (Hs t)) xs
+  unfolding level countsAt
+  rows-of zero xs e m = absurd (m refl)
+  rows-of (suc d) xs e m = descended (countsAt t (suc d)) (sum (suc d) (Hs t)) xs (level t c d .twin) (omega (arith, sound d .twin-long)) e
+
   module _ (d : ℕ) where
     level-there : levelAt (countsAt t d) (sum d (Hs t)) (stage t x d) ≡ level t c d
     unfolding stage tablesInFront levelsEndToEnd twins verts edges
@@ -111,6 +118,7 @@ module _ (t : HalfedgeTable) (depth : ℕ) (x : Tables) (r : Refinable t depth x
             vert = housed (fits verts verts-long (x .vert) d l (r .vert-room));
             edge = housed (fits edges edges-long (x .edge) d l (r .edge-room));
             twins = λ h m. rw (← part-at (stage t x d .twin) (sum d (Hs t)) (Hs t d) h 0 m) (λ k. omega (arith, small-there .halfedges, s .twin-below h m k));
+            rows = rows-of d (stage t x d .twin) (ap (λ y. y .twin) level-there);
             edges = λ h m. rw (← part-at (stage t x d .edge) (sum d (Hs t)) (Hs t d) h 0 m) (omega (arith, small-there .edges, s .edge-below h m));
           }
 

@@ -13,7 +13,7 @@ use Rattle.laws.proofs.Parts.{length-part, part-at}
 use Rattle.halfedges.specs.Cage.{PREV, cell, above}
 use Rattle.halfedges.proofs.Triangle.{prev-first, prev-other}
 use Rattle.connectivity.specs.NextLevel.{newTwin, newEdge, newVert, nextTwins, nextEdges, nextVerts}
-use Rattle.connectivity.specs.InPlace.{trio, outerTwin, innerTwin, firstHalf, secondHalf, splitTwins, splitVerts, splitEdges, setSplit, withNext, Housed}
+use Rattle.connectivity.specs.InPlace.{trio, outerTwin, innerTwin, firstHalf, secondHalf, joinTwins, splitTwins, splitVerts, splitEdges, setSplit, withNext, Housed}
 use Rattle.connectivity.proofs.Rows.{at-corner, at-across, at-back, at-middle}
 use Rattle.connectivity.proofs.Fill.{Going, splitBy, going-start, going-on, going-before, going-done}
 
@@ -77,7 +77,7 @@ module _ (n h : ℕ) (first : h % 3 ≡ 0) (l : h + 3 ≤ n) where
 -- the split of a triangle by the level's cells, as they lie in the tables
 module _ (at n h : ℕ) (first : h % 3 ≡ 0) (l : h + 3 ≤ n) where
   twin-split : (twin : List ℕ) → at + n ≤ length twin → splitBy (newTwin (part twin at n)) n h ≡ splitTwins (trio (λ k. cell twin (at + k)) h) n h
-  unfolding newTwin splitTwins
+  unfolding newTwin splitTwins joinTwins
   twin-split twin room =
       let long : length (part twin at n) ≡ n = length-part twin at n room in
       split-is n h first l (newTwin (part twin at n)) (λ k. outerTwin (cell twin (at + k))) (λ k. 3 * n + k) (λ k. innerTwin (cell twin (at + k)))
@@ -144,8 +144,11 @@ module _ {t : HalfedgeTable} {at : ℕ} {xs : List ℕ} (s : Housed t at xs) whe
       filled-three l = omega (arith, s .whole, f .first)
 
       -- the level is read as it was
+      pub filled-before : (k : ℕ) → k < at + n → cell ys k ≡ cell xs k
+      filled-before = going-before xs (at + n) n new room (f .going)
+
       pub filled-trio : h < n → trio (cell ys) (at + h) ≡ trio (λ k. cell xs (at + k)) h
-      filled-trio l = trio-read n h (f .first) (filled-three l) xs ys at (going-before xs (at + n) n new room (f .going))
+      filled-trio l = trio-read n h (f .first) (filled-three l) xs ys at filled-before
 
       filled-on : {zs : List ℕ} {r : Split} → h < n → zs ≡ setSplit ys (at + n) n h r → r ≡ splitBy new n h → Filled n at new xs zs (h + 3)
       filled-on l e q =

@@ -1,6 +1,6 @@
 -- How the code writes a level: straight after the one before it, in the same tables. Only contracts between functions cite
 -- these; the promises of the public operations, in Operations, do not.
-use Prim.Native.Nat.{ℕ, _+_, _*_, _%_, _≤_, _<_}
+use Prim.Native.Nat.{ℕ, _+_, _*_, _/_, _%_, _≤_, _<_}
 use mathlib.Core.Path.{_≡_}
 use mathlib.Core.Logic.{_≢_}
 use mathlib.Core.Bool.{Bool, cond, _||_}
@@ -40,6 +40,10 @@ outerTwin t = cond (eqb t marker) marker (3 * NEXT t + 2)
 abbrev pub innerTwin : ℕ → ℕ
 innerTwin t = cond (eqb t marker) marker (3 * t)
 
+-- both: the twins of the halves of t's twin
+abbrev pub twinHalves : ℕ → List ℕ
+twinHalves t = outerTwin t ∷ innerTwin t ∷ []
+
 -- "h > t", where "a missing twin counts as lower than every halfedge"
 abbrev pub isAbove : ℕ → ℕ → Bool
 isAbove t h = eqb t marker || ltb t h
@@ -51,15 +55,19 @@ firstHalf e t h = 2 * e + cond (isAbove t h) 0 1
 abbrev pub secondHalf : ℕ → ℕ → ℕ → ℕ
 secondHalf e t h = 2 * e + cond (isAbove t h) 1 0
 
--- the four triangles that a triangle is split into, in TWIN, VERT and EDGE: from its cells, where h is its first halfedge
-unfoldable pub splitTwins : List ℕ → ℕ → ℕ → Split
-splitTwins twins n h =
+-- TWIN of the four triangles that a triangle is split into, from the twins of the halves of its halfedges, of which h is the first
+unfoldable pub joinTwins : List ℕ → List ℕ → List ℕ → ℕ → ℕ → Split
+joinTwins a b c n h =
     record {
-      first = outerTwin (cell twins 0) ∷ (3 * n + h) ∷ innerTwin (cell twins 2) ∷ [];
-      second = outerTwin (cell twins 1) ∷ (3 * n + (h + 1)) ∷ innerTwin (cell twins 0) ∷ [];
-      third = outerTwin (cell twins 2) ∷ (3 * n + (h + 2)) ∷ innerTwin (cell twins 1) ∷ [];
+      first = cell a 0 ∷ (3 * n + h) ∷ cell c 1 ∷ [];
+      second = cell b 0 ∷ (3 * n + (h + 1)) ∷ cell a 1 ∷ [];
+      third = cell c 0 ∷ (3 * n + (h + 2)) ∷ cell b 1 ∷ [];
       middle = trio (λ k. 3 * k + 1) h;
     }
+
+-- the four in TWIN, VERT and EDGE, from the triangle's cells
+unfoldable pub splitTwins : List ℕ → ℕ → ℕ → Split
+splitTwins twins n h = joinTwins (twinHalves (cell twins 0)) (twinHalves (cell twins 1)) (twinHalves (cell twins 2)) n h
 
 unfoldable pub splitVerts : List ℕ → List ℕ → ℕ → Split
 splitVerts verts edges v =
@@ -91,6 +99,10 @@ setSplit xs base n h s =
     let c = setThree b (base + 3 * h + 6) (cell (s .third) 0) (cell (s .third) 1) (cell (s .third) 2) in
     setThree c (base + (3 * n + h)) (cell (s .middle) 0) (cell (s .middle) 1) (cell (s .middle) 2)
 
+-- the split of the triangle at h, of the level that stands at an offset, in TWIN
+abbrev pub withSplit : List ℕ → ℕ → ℕ → ℕ → List ℕ
+withSplit twin at n h = setSplit twin (at + n) n h (splitTwins (trio (cell twin) (at + h)) n h)
+
 -- cells of the three tables in front of what those held
 unfoldable pub tablesInFront : Tables → Tables → Tables
 tablesInFront c x = tables (inFront (c .twin) (x .twin)) (inFront (c .vert) (x .vert)) (inFront (c .edge) (x .edge))
@@ -121,12 +133,55 @@ SmallTwins t at twin = (h : ℕ) → h < t .halfedges → SmallTwin (cell twin (
 abbrev pub SmallEdges : HalfedgeTable → ℕ → List ℕ → Type 0
 SmallEdges t at edge = (h : ℕ) → h < t .halfedges → cell edge (at + h) < 4194304
 
+-- a triangle of a small level at an offset, with room for its split
+pub record Fits (n at h : ℕ) (xs : List ℕ) : Type 0 where
+  pub small : n ≤ 4194304
+  pub within : h + 3 ≤ n
+  pub room : at + 5 * n ≤ length xs
+
+-- a small twin whose NEXT is known
+abbrev pub KnownNext : ℕ → ℕ → Type 0
+KnownNext t next = t ≢ marker → (t < 4194304) × (next ≡ NEXT t)
+
+-- a small twin that leaves r by 3: which of its triangle's three it is
+abbrev pub Leaving : ℕ → ℕ → Type 0
+Leaving r t = t ≢ marker → (t < 4194304) × (t % 3 ≡ r)
+
+-- the twins of a corner triangle at k, of which the one across is known, and its NEXT
+pub record CornerTriangle (twin : List ℕ) (k across next : ℕ) : Type 0 where
+  pub first : Leaving 2 (cell twin k)
+  pub second : cell twin (k + 1) ≡ across
+  pub third : Leaving 0 (cell twin (k + 2))
+  pub small : across < 4194304
+  pub known : next ≡ NEXT across
+
+-- the twins of a middle triangle at k: those across from it in three corner triangles one after the other
+pub record MiddleTriangle (twin : List ℕ) (k across : ℕ) : Type 0 where
+  pub first : cell twin k ≡ across
+  pub second : cell twin (k + 1) ≡ across + 3
+  pub third : cell twin (k + 2) ≡ across + 6
+  pub small : across + 6 < 4194304
+  pub leaving : across % 3 ≡ 1
+
+-- TWIN of a level above the cage, by the rows that made it from the level before, which has a quarter of its halfedges
+pub record Descended (t : HalfedgeTable) (at : ℕ) (twin : List ℕ) : Type 0 where
+  pub four : t .halfedges % 4 ≡ 0
+  pub corner : (h : ℕ) → h < t .halfedges / 4 → cell twin (at + 3 * h) ≢ marker → cell twin (at + 3 * h) % 3 ≡ 2
+  pub across : (h : ℕ) → h < t .halfedges / 4 → cell twin (at + (3 * h + 1)) ≡ 3 * (t .halfedges / 4) + h
+  pub back : (h : ℕ) → h < t .halfedges / 4 → cell twin (at + (3 * h + 2)) ≢ marker → cell twin (at + (3 * h + 2)) % 3 ≡ 0
+  pub middle : (h : ℕ) → h < t .halfedges / 4 → cell twin (at + (3 * (t .halfedges / 4) + h)) ≡ 3 * h + 1
+
+-- only the cage stands at the start of the tables
+abbrev pub CageOrDescended : HalfedgeTable → ℕ → List ℕ → Type 0
+CageOrDescended t at twin = at ≢ 0 → Descended t at twin
+
 -- a level stands in the tables, with room for the next one
 pub record Standing (t : HalfedgeTable) (at : ℕ) (x : Tables) : Type 0 where
   pub twin : Housed t at (x .twin)
   pub vert : Housed t at (x .vert)
   pub edge : Housed t at (x .edge)
   pub twins : SmallTwins t at (x .twin)
+  pub rows : CageOrDescended t at (x .twin)
   pub edges : SmallEdges t at (x .edge)
 
 -- a cage stands in front of the tables, with room for levels 0 to the depth

@@ -4,10 +4,10 @@ ghost use mathlib.Core.List.{[], _∷_};
 ghost use Prim.Native.Nat.{_+_, _*_, _<_, _≤_};
 ghost use lib.ListN.{length};
 ghost use Rattle.laws.specs.Parts.{part};
-ghost use Rattle.halfedges.specs.Cage.{cell};
+ghost use Rattle.halfedges.specs.Cage.{NEXT, cell};
 ghost use Rattle.connectivity.specs.Tables.{tables};
 ghost use Rattle.connectivity.specs.NextLevel.{nextTwins, nextVerts, nextEdges};
-ghost use Rattle.connectivity.specs.InPlace.{trio, setThree, setSplit, splitTwins, splitVerts, splitEdges, outerTwin, innerTwin, isAbove, firstHalf, secondHalf, SmallTwin, SmallTwins, SmallEdges, Housed, Standing, withNext, withNextLevel};
+ghost use Rattle.connectivity.specs.InPlace.{trio, setThree, setSplit, joinTwins, splitTwins, withSplit, splitVerts, splitEdges, twinHalves, isAbove, firstHalf, secondHalf, KnownNext, SmallTwin, SmallTwins, SmallEdges, Fits, CornerTriangle, MiddleTriangle, Descended, Housed, Standing, withNext, withNextLevel};
 use halfedges::table::HalfedgeTable;
 
 // A number of a table as an index.
@@ -28,14 +28,30 @@ pub fn is_above(twin: u32, halfedge: usize) -> bool
 }
 
 // The twins of a halfedge's two halves, 3h and 3·NEXT(h)+2, from its own twin t: 3·NEXT(t)+2 and 3·t.
-fn twin_halves(old: u32) -> [u32; 2]
-    requires { ⌜ SmallTwin old ⌝ }
-    ensures { λ r. ⌜ r ≡ (outerTwin old ∷ innerTwin old ∷ []) ⌝ }
+fn known_halves(twin: usize, next: usize) -> [u32; 2]
+    requires { ⌜ (twin < 4194304) × (next ≡ NEXT twin) ⌝ }
+    ensures { λ r. ⌜ r ≡ twinHalves twin ⌝ }
+{
+    [(3 * next + 2) as u32, (3 * twin) as u32]
+}
+
+// The same where the twin may be missing.
+fn twin_halves(old: u32, next: usize) -> [u32; 2]
+    requires { ⌜ KnownNext old next ⌝ }
+    ensures { λ r. ⌜ r ≡ twinHalves old ⌝ }
 {
     if old == HalfedgeTable::NO_TWIN {
         return [HalfedgeTable::NO_TWIN, HalfedgeTable::NO_TWIN];
     }
-    [(3 * HalfedgeTable::next(wide(old)) + 2) as u32, 3 * old]
+    known_halves(wide(old), next)
+}
+
+// The same where any of its triangle's three may be the twin.
+fn any_halves(old: u32) -> [u32; 2]
+    requires { ⌜ SmallTwin old ⌝ }
+    ensures { λ r. ⌜ r ≡ twinHalves old ⌝ }
+{
+    twin_halves(old, HalfedgeTable::next(wide(old)))
 }
 
 // The edges of the same two: an edge's halves are numbered along the higher of its halfedges.
@@ -82,15 +98,11 @@ struct Split {
     middle: [u32; 3],
 }
 
-// TWIN, from the triangle's twins.
-fn split_twins(twins: [u32; 3], halfedges: usize, first: usize) -> Split
-    requires { ⌜ (SmallTwin (cell twins 0)) × (SmallTwin (cell twins 1)) × (SmallTwin (cell twins 2)) ⌝ }
+// TWIN, from the twins of the halves of the triangle's halfedges.
+fn join_twins(a: [u32; 2], b: [u32; 2], c: [u32; 2], halfedges: usize, first: usize) -> Split
     requires { ⌜ (halfedges ≤ 4194304) × (first ≤ 4194304) ⌝ }
-    ensures { λ r. ⌜ r ≡ splitTwins twins halfedges first ⌝ }
+    ensures { λ r. ⌜ r ≡ joinTwins a b c halfedges first ⌝ }
 {
-    let a = twin_halves(twins[0]);
-    let b = twin_halves(twins[1]);
-    let c = twin_halves(twins[2]);
     let across = count_up(3 * halfedges + first, 1);
     Split {
         first: [a[0], across[0], c[1]],
@@ -98,6 +110,18 @@ fn split_twins(twins: [u32; 3], halfedges: usize, first: usize) -> Split
         third: [c[0], across[2], b[1]],
         middle: count_up(3 * first + 1, 3),
     }
+}
+
+// TWIN, from the triangle's twins.
+fn split_twins(twins: [u32; 3], halfedges: usize, first: usize) -> Split
+    requires { ⌜ (SmallTwin (cell twins 0)) × (SmallTwin (cell twins 1)) × (SmallTwin (cell twins 2)) ⌝ }
+    requires { ⌜ (halfedges ≤ 4194304) × (first ≤ 4194304) ⌝ }
+    ensures { λ r. ⌜ r ≡ splitTwins twins halfedges first ⌝ }
+{
+    let a = any_halves(twins[0]);
+    let b = any_halves(twins[1]);
+    let c = any_halves(twins[2]);
+    join_twins(a, b, c, halfedges, first)
 }
 
 // VERT, from the triangle's corners and edges.
@@ -161,8 +185,8 @@ fn put(table: &mut [u32], base: usize, halfedges: usize, first: usize, split: Sp
     store(table, base + (3 * halfedges + first), middle);
 }
 
-// Writes the next level's TWIN after the level that stands at an offset.
-fn next_twins(twin: &mut [u32], at: usize, level: HalfedgeTable)
+// Writes the next level's TWIN after the level that stands at an offset, whatever its twins are: after the cage.
+fn cage_twins(twin: &mut [u32], at: usize, level: HalfedgeTable)
     requires { ⌜ Housed level at (now twin) ⌝ }
     requires { ⌜ SmallTwins level at (now twin) ⌝ }
     ensures { λ _. ⌜ now (twin .exit) ≡ withNext (now (twin .entry)) at (level .halfedges) (nextTwins (part (now (twin .entry)) at (level .halfedges))) ⌝ }
@@ -173,6 +197,72 @@ fn next_twins(twin: &mut [u32], at: usize, level: HalfedgeTable)
         let split = split_twins(three(twin, at + first), halfedges, first);
         put(twin, at + halfedges, halfedges, first, split);
         first += 3;
+    }
+}
+
+// Writes the split of a corner triangle, one that lies at a corner of the level before. Its first halfedge's twin is the last
+// of a triangle and its last one's the first, and the twin across is known.
+fn put_corner(
+    twin: &mut [u32],
+    at: usize,
+    halfedges: usize,
+    corner: usize,
+    across: usize,
+    next: usize,
+)
+    requires { ⌜ Fits halfedges at (3 * corner) (now twin) ⌝ }
+    requires { ⌜ CornerTriangle (now twin) (at + 3 * corner) across next ⌝ }
+    ensures { λ _. ⌜ now (twin .exit) ≡ withSplit (now (twin .entry)) at halfedges (3 * corner) ⌝ }
+{
+    let first = 3 * corner;
+    let a = twin[at + first];
+    let c = twin[at + first + 2];
+    let split = join_twins(
+        twin_halves(a, wide(a) - 2),
+        known_halves(across, next),
+        twin_halves(c, wide(c) + 1),
+        halfedges,
+        first,
+    );
+    put(twin, at + halfedges, halfedges, first, split);
+}
+
+// The same of a middle triangle, whose twins are those across from it in three corner triangles.
+fn put_middle(twin: &mut [u32], at: usize, halfedges: usize, first: usize, across: usize)
+    requires { ⌜ Fits halfedges at first (now twin) ⌝ }
+    requires { ⌜ MiddleTriangle (now twin) (at + first) across ⌝ }
+    ensures { λ _. ⌜ now (twin .exit) ≡ withSplit (now (twin .entry)) at halfedges first ⌝ }
+{
+    let split = join_twins(
+        known_halves(across, across + 1),
+        known_halves(across + 3, across + 4),
+        known_halves(across + 6, across + 7),
+        halfedges,
+        first,
+    );
+    put(twin, at + halfedges, halfedges, first, split);
+}
+
+// The same above the cage, where the row of a twin says which of its triangle's three it is, so that NEXT takes no division:
+// for each triangle of the level before first its three corner triangles, and then the middle ones.
+fn twins_above(twin: &mut [u32], at: usize, level: HalfedgeTable)
+    requires { ⌜ (Housed level at (now twin)) × (SmallTwins level at (now twin)) × (Descended level at (now twin)) ⌝ }
+    ensures { λ _. ⌜ now (twin .exit) ≡ withNext (now (twin .entry)) at (level .halfedges) (nextTwins (part (now (twin .entry)) at (level .halfedges))) ⌝ }
+{
+    let halfedges = level.halfedges;
+    let before = halfedges / 4;
+    let mut corner = 0;
+    while corner < before {
+        let across = 3 * before + corner;
+        put_corner(twin, at, halfedges, corner, across, across + 1);
+        put_corner(twin, at, halfedges, corner + 1, across + 1, across + 2);
+        put_corner(twin, at, halfedges, corner + 2, across + 2, across);
+        corner += 3;
+    }
+    let mut middle = 0;
+    while middle < before {
+        put_middle(twin, at, halfedges, 3 * before + middle, 3 * middle + 1);
+        middle += 3;
     }
 }
 
@@ -214,7 +304,7 @@ fn next_edges(edge: &mut [u32], twin: &[u32], at: usize, level: HalfedgeTable)
 }
 
 // Writes the next level of the level that stands at an offset straight after it. A table at a time takes three quarters of
-// the time of all three together, since stores then go to fewer places at once.
+// the time of all three together, since stores then go to fewer places at once. Only the cage stands at the start.
 pub fn next_level(
     twin: &mut [u32],
     vert: &mut [u32],
@@ -227,5 +317,9 @@ pub fn next_level(
 {
     next_verts(vert, edge, at, level);
     next_edges(edge, twin, at, level);
-    next_twins(twin, at, level);
+    if at == 0 {
+        cage_twins(twin, at, level);
+    } else {
+        twins_above(twin, at, level);
+    }
 }

@@ -11,8 +11,14 @@ next-verts-requires c κs = search needs
 next-edges-requires : tie.Need-next-edges-requires
 next-edges-requires c κs = search needs
 
-next-twins-requires : tie.Need-next-twins-requires
-next-twins-requires c κs = search needs
+cage-twins-requires : tie.Need-cage-twins-requires
+cage-twins-requires c κs = search needs
+
+twins-above-requires : tie.Need-twins-above-requires
+twins-above-requires c κs =
+    let i = c .before in
+    let s = i .before .before .before .before .before .before .before .before .before .before .before .before .before .before in
+    (s .pre .twin, s .pre .twins, s .pre .rows (i .if1 .left))
 
 same-length : tie.Need-same-length
 same-length c = search needs
@@ -27,9 +33,26 @@ returns : tie.Need-returns
 unfolding withNextLevel
 returns c =
     let t = c .before .before in
-    let e = t .before .before .before .before in
+    let e = t .before .before .before .before .before in
     let v = e .before .before .before .before .before in
-    λ i. tables (t .next-twins .ensures i) (v .next-verts .ensures i) (e .next-edges .ensures i)
+    λ i. tables (t .cage-twins .ensures i) (v .next-verts .ensures i) (e .next-edges .ensures i)
+
+same-length-4 : tie.Need-same-length-4
+same-length-4 c = search needs
+
+same-length-5 : tie.Need-same-length-5
+same-length-5 c = search needs
+
+same-length-6 : tie.Need-same-length-6
+same-length-6 c = search needs
+
+returns-2 : tie.Need-returns-2
+unfolding withNextLevel
+returns-2 c =
+    let t = c .before .before in
+    let e = t .before .before .before .before .before in
+    let v = e .before .before .before .before .before in
+    λ i. tables (t .twins-above .ensures i) (v .next-verts .ensures i) (e .next-edges .ensures i)
 
 pub next-level-spec : {M : Type 1} → statement M
 next-level-spec =
@@ -37,8 +60,13 @@ next-level-spec =
     (tie.spec
     next-verts-requires
     next-edges-requires
-    next-twins-requires
+    cage-twins-requires
+    twins-above-requires
     same-length
     same-length-2
     same-length-3
-    returns)
+    returns
+    same-length-4
+    same-length-5
+    same-length-6
+    returns-2)

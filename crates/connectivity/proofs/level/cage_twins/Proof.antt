@@ -1,4 +1,4 @@
--- `next_twins` goes through the triangles, and the level that it reads stands untouched before what it writes.
+-- `cage_twins` goes through the triangles, and the level that it reads stands untouched before what it writes.
 use Prim.Native.Nat.{_+_, _-_, _≤_}
 use mathlib.Core.Path.{_∙_}
 use native.Mathlib.Omega.{arith}
@@ -6,8 +6,8 @@ use Rattle.laws.specs.Parts.{part}
 use Rattle.connectivity.specs.NextLevel.{newTwin}
 use Rattle.connectivity.specs.InPlace.{SmallTwin}
 use Rattle.connectivity.proofs.Triangles.{Filled, all-three, filled-start, filled-long, filled-three, filled-trio, twins-on, twins-done}
-use Rattle.connectivity.proofs.level.next_twins.Statement.{statement}
-use Rattle.connectivity.proofs.level.next_twins.Tie as tie
+use Rattle.connectivity.proofs.level.cage_twins.Statement.{statement}
+use Rattle.connectivity.proofs.level.cage_twins.Tie as tie
 
 abbrev Inv-loop : tie.InvT-loop
 Inv-loop twin₀ at halfedges first₀ twin first = Filled halfedges at (newTwin (part twin₀ at halfedges)) twin₀ twin first
@@ -66,8 +66,8 @@ same-length c = filled-long (c .before .before .before .pre .0) _ (c .before .lo
 returns : tie.Need-returns Inv-loop μ-loop
 returns c = twins-done (c .before .before .before .pre .0) (c .before .loop .inv) (c .loop-test .left)
 
-pub next-twins-spec : {M : Type 1} → statement M
-next-twins-spec =
+pub cage-twins-spec : {M : Type 1} → statement M
+cage-twins-spec =
     tie.close
     (tie.spec
     Inv-loop
