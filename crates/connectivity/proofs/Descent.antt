@@ -2,11 +2,13 @@
 -- of the loops have (`corner-there`, `middle-there`). Assumes nothing.
 use Prim.Native.Nat.{ℕ, _+_, _-_, _*_, _/_, _%_, _≤_, _<_}
 use mathlib.Core.Path.{_≡_, refl, sym, ap, subst, _∙_}
+use mathlib.Core.Bool.{true, false}
 use mathlib.Core.List.{List}
 use native.Mathlib.Decide.{ℕ-discrete}
 use native.Mathlib.Nat.{mul-mod-right}
 use native.Mathlib.Omega.{arith}
 use lib.ListN.{length}
+use borrow.Author.Tests.{ne-eqb, lt-ltb, le-ltb}
 use Rattle.halfedges.specs.declared.table.HalfedgeTable.{HalfedgeTable}
 use Rattle.laws.specs.Parts.{part}
 use Rattle.laws.proofs.Parts.{part-at}
@@ -14,10 +16,10 @@ use Rattle.laws.proofs.Tabulate.{getD-tabulate}
 use Rattle.halfedges.specs.Cage.{NEXT, PREV, marker, cell}
 use Rattle.halfedges.proofs.Triangle.{next-last, next-other}
 use Rattle.connectivity.specs.NextLevel.{newTwin, nextTwins}
-use Rattle.connectivity.specs.InPlace.{withSplit, Housed, SmallTwins, KnownNext, Leaving, Fits, CornerTriangle, MiddleTriangle, Descended}
+use Rattle.connectivity.specs.InPlace.{isAbove, withSplit, Housed, SmallTwins, KnownNext, Leaving, CornerTriangle, MiddleTriangle, Descended}
 use Rattle.connectivity.proofs.Rows.{at-corner, at-across, at-back, at-middle}
 use Rattle.connectivity.proofs.Soundness.{where-twin}
-use Rattle.connectivity.proofs.Triangles.{Filled, filled-three, filled-before, filled-long, twins-on}
+use Rattle.connectivity.proofs.Triangles.{Filled, filled-three, filled-before, twins-on}
 
 -- the next level of c's, where it stands
 module _ (t : HalfedgeTable) (at : ℕ) (twin c : List ℕ) (four : t .halfedges ≡ 4 * length c) (made : part twin at (t .halfedges) ≡ nextTwins c) where
@@ -65,6 +67,29 @@ first-next {t} l e m = (l m .0, ap (λ y. y + 1) e ∙ sym (next-other t (λ z. 
 pub way-round : (a : ℕ) → a % 3 ≡ 0 → (a + 1 ≡ NEXT a) × (a + 2 ≡ NEXT (a + 1)) × (a ≡ NEXT (a + 2))
 way-round a z = (omega (arith, next-other a (λ e. omega arith)), omega (arith, next-other (a + 1) (λ e. omega arith)), omega (arith, next-last (a + 2) (omega arith)))
 
+-- which halfedges of a level above the cage are above their twins
+module _ {t : HalfedgeTable} {at : ℕ} {twin : List ℕ} (s : Housed t at twin) (d : Descended t at twin) where
+  pub quarter-whole : (t .halfedges / 4 % 3 ≡ 0) × (t .halfedges ≡ 4 * (t .halfedges / 4))
+  quarter-whole =
+      let e : t .halfedges ≡ 4 * (t .halfedges / 4) = omega (arith, d .four) in
+      let f : t .halfedges / 4 ≡ 3 * (t .halfedges / 3 - t .halfedges / 4) = omega (arith, s .whole, e) in
+      (subst (λ m. m % 3 ≡ 0) (sym f) (mul-mod-right 3 (t .halfedges / 3 - t .halfedges / 4)), e)
+
+  -- of a corner triangle the one between is not
+  pub across-below : (h : ℕ) → h % 3 ≡ 0 → h < 3 * (t .halfedges / 4) → false ≡ isAbove (cell twin (at + (h + 1))) (h + 1)
+  across-below h z l =
+      let e : h + 1 ≡ 3 * (h / 3) + 1 = omega arith in
+      let v : cell twin (at + (h + 1)) ≡ 3 * (t .halfedges / 4) + h / 3 = rw e (d .across (h / 3) (omega arith)) in
+      rw v (simp (ne-eqb (3 * (t .halfedges / 4) + h / 3) marker (λ m. omega (arith, m, s .small .halfedges)), le-ltb (3 * (t .halfedges / 4) + h / 3) (h + 1) (omega arith)))
+
+  -- and of a middle triangle all are
+  pub middle-above : (h : ℕ) → 3 * (t .halfedges / 4) ≤ h → h < t .halfedges → true ≡ isAbove (cell twin (at + h)) h
+  middle-above h o l =
+      let j = h - 3 * (t .halfedges / 4) in
+      let e : h ≡ 3 * (t .halfedges / 4) + j = omega arith in
+      let v : cell twin (at + h) ≡ 3 * j + 1 = subst (λ k. cell twin (at + k) ≡ 3 * j + 1) (sym e) (d .middle j (omega (arith, d .four))) in
+      rw v (simp (ne-eqb (3 * j + 1) marker (λ m. omega (arith, m, s .small .halfedges)), lt-ltb (3 * j + 1) h (omega (arith, d .four))))
+
 -- the loop over the corner triangles has come to the j-th
 pub record Cornered (n at : ℕ) (xs ys : List ℕ) (j : ℕ) : Type 0 where
   pub filled : Filled n at (newTwin (part xs at n)) xs ys (3 * j)
@@ -87,18 +112,8 @@ module _ {t : HalfedgeTable} {at : ℕ} {xs : List ℕ} (pre : Housed t at xs ×
   abbrev So-far : List ℕ → ℕ → Type 0
   So-far ys h = Filled n at (newTwin (part xs at n)) xs ys h
 
-  pub quarter-whole : (q % 3 ≡ 0) × (n ≡ 4 * q)
-  quarter-whole =
-      let e : n ≡ 4 * q = omega (arith, d .four) in
-      let f : q ≡ 3 * (n / 3 - q) = omega (arith, s .whole, e) in
-      (subst (λ m. m % 3 ≡ 0) (sym f) (mul-mod-right 3 (n / 3 - q)), e)
-
-  module _ {ys : List ℕ} {h : ℕ} (f : So-far ys h) (l : h < n) where
-    pub fits : Fits n at h ys
-    fits = record { small = s .small .halfedges; within = filled-three s _ f l; room = omega (arith, s .room, filled-long s _ f) }
-
-    as-it-was : (k : ℕ) → k < h + 3 → cell ys (at + k) ≡ cell xs (at + k)
-    as-it-was k m = filled-before s _ f (at + k) (omega (arith, fits .within))
+  as-it-was : {ys : List ℕ} {h : ℕ} → So-far ys h → h < n → (k : ℕ) → k < h + 3 → cell ys (at + k) ≡ cell xs (at + k)
+  as-it-was f l k m = filled-before s _ f (at + k) (omega (arith, filled-three s _ f l))
 
   module _ {ys : List ℕ} {j : ℕ} (f : So-far ys (3 * j)) (l : j < q) where
     pub corner-there : (across next : ℕ) → across ≡ 3 * q + j → next ≡ NEXT across → CornerTriangle ys (at + 3 * j) across next
@@ -120,7 +135,7 @@ module _ {t : HalfedgeTable} {at : ℕ} {xs : List ℕ} (pre : Housed t at xs ×
   pub middle-there : {ys : List ℕ} {j : ℕ} → So-far ys (3 * q + j) → j < q → MiddleTriangle ys (at + (3 * q + j)) (3 * j + 1)
   middle-there {ys} {j} f l =
       let w = as-it-was f (omega (arith, d .four)) in
-      let m : j + 3 ≤ q = omega (arith, d .four, fits f (omega (arith, d .four)) .within) in
+      let m : j + 3 ≤ q = omega (arith, d .four, filled-three s _ f (omega (arith, d .four))) in
       let b : at + (3 * q + j) + 1 ≡ at + (3 * q + (j + 1)) = omega arith in
       let c : at + (3 * q + j) + 2 ≡ at + (3 * q + (j + 2)) = omega arith in
       record {

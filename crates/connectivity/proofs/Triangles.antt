@@ -2,6 +2,7 @@
 -- triangle more in each table (`twins-on`, `verts-on`, `edges-on`), and what stands there in the end (`filled-done`). Assumes nothing.
 use Prim.Native.Nat.{ℕ, _+_, _*_, _%_, _≤_, _<_}
 use mathlib.Core.Path.{_≡_, refl, sym, ap, ap₂, _∙_}
+use mathlib.Core.Bool.{Bool}
 use mathlib.Core.List.{List, [], _∷_}
 use native.Mathlib.Omega.{arith}
 use lib.ListN.{length}
@@ -13,7 +14,7 @@ use Rattle.laws.proofs.Parts.{length-part, part-at}
 use Rattle.halfedges.specs.Cage.{PREV, cell, above}
 use Rattle.halfedges.proofs.Triangle.{prev-first, prev-other}
 use Rattle.connectivity.specs.NextLevel.{newTwin, newEdge, newVert, nextTwins, nextEdges, nextVerts}
-use Rattle.connectivity.specs.InPlace.{trio, outerTwin, innerTwin, firstHalf, secondHalf, joinTwins, splitTwins, splitVerts, splitEdges, setSplit, withNext, Housed}
+use Rattle.connectivity.specs.InPlace.{trio, outerTwin, innerTwin, isAbove, firstHalf, secondHalf, joinTwins, splitTwins, splitVerts, splitEdges, setSplit, withSplitEdges, withNext, SmallEdges, Fits, Housed}
 use Rattle.connectivity.proofs.Rows.{at-corner, at-across, at-back, at-middle}
 use Rattle.connectivity.proofs.Fill.{Going, splitBy, going-start, going-on, going-before, going-done}
 
@@ -102,14 +103,14 @@ module _ (at n h : ℕ) (first : h % 3 ≡ 0) (l : h + 3 ≤ n) where
       ∷ middle (h + 2) (h + 1) (omega arith) (omega arith) (third-before n h first l) i
       ∷ [])
 
-  edge-split : (twin edge : List ℕ) (e : ℕ) → at + n ≤ length edge → splitBy (newEdge (part twin at n) (part edge at n) e) n h ≡ splitEdges (trio (λ k. cell edge (at + k)) h) (trio (λ k. cell twin (at + k)) h) e h
+  edge-split : (twin edge : List ℕ) (e : ℕ) → at + n ≤ length edge → splitBy (newEdge (part twin at n) (part edge at n) e) n h ≡ splitEdges (trio (λ k. cell edge (at + k)) h) (isAbove (cell twin (at + h)) h) (isAbove (cell twin (at + (h + 1))) (h + 1)) (isAbove (cell twin (at + (h + 2))) (h + 2)) e h
   unfolding newEdge splitEdges above
   edge-split twin edge e room =
       let long : length (part edge at n) ≡ n = length-part edge at n room in
       split-is n h first l (newEdge (part twin at n) (part edge at n) e)
-      (λ k. firstHalf (cell edge (at + k)) (cell twin (at + k)) k)
+      (λ k. firstHalf (cell edge (at + k)) (isAbove (cell twin (at + k)) k))
       (λ k. 2 * e + k)
-      (λ k. secondHalf (cell edge (at + k)) (cell twin (at + k)) k)
+      (λ k. secondHalf (cell edge (at + k)) (isAbove (cell twin (at + k)) k))
       (λ k m. rw long (at-corner n _ _ _ _ k m ∙ rw (part-at edge at n k 0 m, part-at twin at n k 0 m)))
       (λ k m. rw long (at-across n _ _ _ _ k m))
       (λ k p m o q. rw long (at-back n _ _ _ _ k m ∙ rw (← q, part-at edge at n p 0 o, part-at twin at n p 0 o)))
@@ -124,6 +125,10 @@ pub record Filled (n at : ℕ) (new : ℕ → ℕ) (xs ys : List ℕ) (h : ℕ) 
   pub going : Going xs (at + n) n new ys h
   pub first : h % 3 ≡ 0
   pub within : h ≤ n
+
+-- a table from which the same was reached has the same room
+pub housed-as : {t : HalfedgeTable} {at h k : ℕ} {new old : ℕ → ℕ} {xs ys zs : List ℕ} → Housed t at xs → Filled (t .halfedges) at new xs ys h → Filled (t .halfedges) at old zs ys k → Housed t at zs
+housed-as s f g = record { small = s .small; whole = s .whole; room = omega (arith, s .room, f .going .long, g .going .long) }
 
 module _ {t : HalfedgeTable} {at : ℕ} {xs : List ℕ} (s : Housed t at xs) where
   abbrev n : ℕ
@@ -150,6 +155,9 @@ module _ {t : HalfedgeTable} {at : ℕ} {xs : List ℕ} (s : Housed t at xs) whe
       pub filled-trio : h < n → trio (cell ys) (at + h) ≡ trio (λ k. cell xs (at + k)) h
       filled-trio l = trio-read n h (f .first) (filled-three l) xs ys at filled-before
 
+      pub filled-fits : h < n → Fits n at h ys
+      filled-fits l = record { small = s .small .halfedges; within = filled-three l; room = omega (arith, s .room, filled-long) }
+
       filled-on : {zs : List ℕ} {r : Split} → h < n → zs ≡ setSplit ys (at + n) n h r → r ≡ splitBy new n h → Filled n at new xs zs (h + 3)
       filled-on l e q =
           record {
@@ -175,6 +183,9 @@ module _ {t : HalfedgeTable} {at : ℕ} {xs : List ℕ} (s : Housed t at xs) whe
   unfolding nextTwins
   twins-done f l = filled-done _ f l long
 
+  pub edges-ready : {new : ℕ → ℕ} {ys : List ℕ} {h : ℕ} → SmallEdges t at xs → Filled n at new xs ys h → h < n → (Fits n at h ys × t .edges ≤ 4194304) × (cell ys (at + h) < 4194304 × cell ys (at + h + 1) < 4194304 × cell ys (at + h + 2) < 4194304)
+  edges-ready small f l = ((filled-fits _ f l, s .small .edges), all-three (λ e. e < 4194304) small (filled-three _ f l) (filled-trio _ f l))
+
   module _ (other : List ℕ) where
     pub other-trio : (h : ℕ) → h % 3 ≡ 0 → h + 3 ≤ n → trio (cell other) (at + h) ≡ trio (λ k. cell other (at + k)) h
     other-trio h z l = trio-read n h z l other other at (λ k m. refl)
@@ -189,11 +200,11 @@ module _ {t : HalfedgeTable} {at : ℕ} {xs : List ℕ} (s : Housed t at xs) whe
     unfolding nextVerts
     verts-done f l = filled-done _ f l long
 
-    pub edges-on : {ys zs c d : List ℕ} {r : Split} {h : ℕ} → Filled n at (newEdge (part other at n) (part xs at n) (t .edges)) xs ys h → h < n → c ≡ trio (cell ys) (at + h) → d ≡ trio (cell other) (at + h) → r ≡ splitEdges c d (t .edges) h → zs ≡ setSplit ys (at + n) n h r → Filled n at (newEdge (part other at n) (part xs at n) (t .edges)) xs zs (h + 3)
-    edges-on {h = h} f l e o q p =
-        let w = filled-three _ f l in
-        filled-on _ f l p
-        (q ∙ ap₂ (λ c d. splitEdges c d (t .edges) h) (e ∙ filled-trio _ f l) (o ∙ other-trio h (f .first) w) ∙ sym (edge-split at n h (f .first) w other xs (t .edges) (omega (arith, s .room))))
+    pub edges-on : {ys zs : List ℕ} {h : ℕ} {a b c : Bool} → Filled n at (newEdge (part other at n) (part xs at n) (t .edges)) xs ys h → h < n → a ≡ isAbove (cell other (at + h)) h → b ≡ isAbove (cell other (at + (h + 1))) (h + 1) → c ≡ isAbove (cell other (at + (h + 2))) (h + 2) → zs ≡ withSplitEdges ys at t h a b c → Filled n at (newEdge (part other at n) (part xs at n) (t .edges)) xs zs (h + 3)
+    edges-on {h = h} f l p q r e =
+        filled-on _ f l e
+        ((λ i. splitEdges (filled-trio _ f l i) (p i) (q i) (r i) (t .edges) h)
+        ∙ sym (edge-split at n h (f .first) (filled-three _ f l) other xs (t .edges) (omega (arith, s .room))))
 
     pub edges-done : {ys : List ℕ} {h : ℕ} → Filled n at (newEdge (part other at n) (part xs at n) (t .edges)) xs ys h → n ≤ h → ys ≡ withNext xs at n (nextEdges (part other at n) (part xs at n) (t .edges))
     unfolding nextEdges

@@ -49,11 +49,15 @@ abbrev pub isAbove : ℕ → ℕ → Bool
 isAbove t h = eqb t marker || ltb t h
 
 -- "2·EDGE(h), plus 0 if h > t else 1" and "2·EDGE(h'), plus 1 if h' > t' else 0"
-abbrev pub firstHalf : ℕ → ℕ → ℕ → ℕ
-firstHalf e t h = 2 * e + cond (isAbove t h) 0 1
+abbrev pub firstHalf : ℕ → Bool → ℕ
+firstHalf e up = 2 * e + cond up 0 1
 
-abbrev pub secondHalf : ℕ → ℕ → ℕ → ℕ
-secondHalf e t h = 2 * e + cond (isAbove t h) 1 0
+abbrev pub secondHalf : ℕ → Bool → ℕ
+secondHalf e up = 2 * e + cond up 1 0
+
+-- both
+abbrev pub edgeHalves : ℕ → Bool → List ℕ
+edgeHalves e up = firstHalf e up ∷ secondHalf e up ∷ []
 
 -- TWIN of the four triangles that a triangle is split into, from the twins of the halves of its halfedges, of which h is the first
 unfoldable pub joinTwins : List ℕ → List ℕ → List ℕ → ℕ → ℕ → Split
@@ -78,12 +82,13 @@ splitVerts verts edges v =
       middle = (v + cell edges 2) ∷ (v + cell edges 0) ∷ (v + cell edges 1) ∷ [];
     }
 
-unfoldable pub splitEdges : List ℕ → List ℕ → ℕ → ℕ → Split
-splitEdges edges twins e h =
+-- in EDGE, where a, b and c say which of the halfedges are above their twins
+unfoldable pub splitEdges : List ℕ → Bool → Bool → Bool → ℕ → ℕ → Split
+splitEdges edges a b c e h =
     record {
-      first = firstHalf (cell edges 0) (cell twins 0) h ∷ (2 * e + h) ∷ secondHalf (cell edges 2) (cell twins 2) (h + 2) ∷ [];
-      second = firstHalf (cell edges 1) (cell twins 1) (h + 1) ∷ (2 * e + (h + 1)) ∷ secondHalf (cell edges 0) (cell twins 0) h ∷ [];
-      third = firstHalf (cell edges 2) (cell twins 2) (h + 2) ∷ (2 * e + (h + 2)) ∷ secondHalf (cell edges 1) (cell twins 1) (h + 1) ∷ [];
+      first = firstHalf (cell edges 0) a ∷ (2 * e + h) ∷ secondHalf (cell edges 2) c ∷ [];
+      second = firstHalf (cell edges 1) b ∷ (2 * e + (h + 1)) ∷ secondHalf (cell edges 0) a ∷ [];
+      third = firstHalf (cell edges 2) c ∷ (2 * e + (h + 2)) ∷ secondHalf (cell edges 1) b ∷ [];
       middle = trio (λ k. 2 * e + k) h;
     }
 
@@ -102,6 +107,11 @@ setSplit xs base n h s =
 -- the split of the triangle at h, of the level that stands at an offset, in TWIN
 abbrev pub withSplit : List ℕ → ℕ → ℕ → ℕ → List ℕ
 withSplit twin at n h = setSplit twin (at + n) n h (splitTwins (trio (cell twin) (at + h)) n h)
+
+-- and in EDGE
+abbrev pub withSplitEdges : List ℕ → ℕ → HalfedgeTable → ℕ → Bool → Bool → Bool → List ℕ
+withSplitEdges edge at t h a b c =
+    setSplit edge (at + t .halfedges) (t .halfedges) h (splitEdges (trio (cell edge) (at + h)) a b c (t .edges) h)
 
 -- cells of the three tables in front of what those held
 unfoldable pub tablesInFront : Tables → Tables → Tables

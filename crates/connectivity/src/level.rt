@@ -7,7 +7,7 @@ ghost use Rattle.laws.specs.Parts.{part};
 ghost use Rattle.halfedges.specs.Cage.{NEXT, cell};
 ghost use Rattle.connectivity.specs.Tables.{tables};
 ghost use Rattle.connectivity.specs.NextLevel.{nextTwins, nextVerts, nextEdges};
-ghost use Rattle.connectivity.specs.InPlace.{trio, setThree, setSplit, joinTwins, splitTwins, withSplit, splitVerts, splitEdges, twinHalves, isAbove, firstHalf, secondHalf, KnownNext, SmallTwin, SmallTwins, SmallEdges, Fits, CornerTriangle, MiddleTriangle, Descended, Housed, Standing, withNext, withNextLevel};
+ghost use Rattle.connectivity.specs.InPlace.{trio, setThree, setSplit, joinTwins, splitTwins, withSplit, splitVerts, splitEdges, twinHalves, isAbove, edgeHalves, withSplitEdges, KnownNext, SmallTwin, SmallTwins, SmallEdges, Fits, CornerTriangle, MiddleTriangle, Descended, Housed, Standing, withNext, withNextLevel};
 use halfedges::table::HalfedgeTable;
 
 // A number of a table as an index.
@@ -55,11 +55,11 @@ fn any_halves(old: u32) -> [u32; 2]
 }
 
 // The edges of the same two: an edge's halves are numbered along the higher of its halfedges.
-fn edge_halves(edge: u32, twin: u32, halfedge: usize) -> [u32; 2]
+fn edge_halves(edge: u32, above: bool) -> [u32; 2]
     requires { ⌜ edge < 4194304 ⌝ }
-    ensures { λ r. ⌜ r ≡ (firstHalf edge twin halfedge ∷ secondHalf edge twin halfedge ∷ []) ⌝ }
+    ensures { λ r. ⌜ r ≡ edgeHalves edge above ⌝ }
 {
-    if is_above(twin, halfedge) {
+    if above {
         return [2 * edge, 2 * edge + 1];
     }
     [2 * edge + 1, 2 * edge]
@@ -141,15 +141,22 @@ fn split_verts(verts: [u32; 3], edges: [u32; 3], vertices: usize) -> Split
     }
 }
 
-// EDGE, from the triangle's edges and twins.
-fn split_edges(edges: [u32; 3], twins: [u32; 3], all_edges: usize, first: usize) -> Split
+// EDGE, from the triangle's edges and which of its halfedges are above their twins.
+fn split_edges(
+    edges: [u32; 3],
+    a_above: bool,
+    b_above: bool,
+    c_above: bool,
+    all_edges: usize,
+    first: usize,
+) -> Split
     requires { ⌜ (cell edges 0 < 4194304) × (cell edges 1 < 4194304) × (cell edges 2 < 4194304) ⌝ }
     requires { ⌜ («all_edges» ≤ 4194304) × (first ≤ 4194304) ⌝ }
-    ensures { λ r. ⌜ r ≡ splitEdges edges twins «all_edges» first ⌝ }
+    ensures { λ r. ⌜ r ≡ splitEdges edges «a_above» «b_above» «c_above» «all_edges» first ⌝ }
 {
-    let a = edge_halves(edges[0], twins[0], first);
-    let b = edge_halves(edges[1], twins[1], first + 1);
-    let c = edge_halves(edges[2], twins[2], first + 2);
+    let a = edge_halves(edges[0], a_above);
+    let b = edge_halves(edges[1], b_above);
+    let c = edge_halves(edges[2], c_above);
     let across = count_up(2 * all_edges + first, 1);
     Split {
         first: [a[0], across[0], c[1]],
@@ -200,8 +207,8 @@ fn cage_twins(twin: &mut [u32], at: usize, level: HalfedgeTable)
     }
 }
 
-// Writes the split of a corner triangle, one that lies at a corner of the level before. Its first halfedge's twin is the last
-// of a triangle and its last one's the first, and the twin across is known.
+// Writes the split of a corner triangle, one that lies at a corner of the level before, in TWIN. Its first halfedge's twin is
+// the last of a triangle and its last one's the first; the twin across is known, and so is NEXT of it.
 fn put_corner(
     twin: &mut [u32],
     at: usize,
@@ -243,8 +250,8 @@ fn put_middle(twin: &mut [u32], at: usize, halfedges: usize, first: usize, acros
     put(twin, at + halfedges, halfedges, first, split);
 }
 
-// The same above the cage, where the row of a twin says which of its triangle's three it is, so that NEXT takes no division:
-// for each triangle of the level before first its three corner triangles, and then the middle ones.
+// The next level's TWIN after a level above the cage, whose rows say which of its triangle's three a twin is, so that NEXT takes
+// no division: first the corner triangles, three to a triangle of the level before, and then the middle ones.
 fn twins_above(twin: &mut [u32], at: usize, level: HalfedgeTable)
     requires { ⌜ (Housed level at (now twin)) × (SmallTwins level at (now twin)) × (Descended level at (now twin)) ⌝ }
     ensures { λ _. ⌜ now (twin .exit) ≡ withNext (now (twin .entry)) at (level .halfedges) (nextTwins (part (now (twin .entry)) at (level .halfedges))) ⌝ }
@@ -266,7 +273,7 @@ fn twins_above(twin: &mut [u32], at: usize, level: HalfedgeTable)
     }
 }
 
-// The same of VERT, which takes the level's EDGE too.
+// The next level's VERT, which takes the level's EDGE too.
 fn next_verts(vert: &mut [u32], edge: &[u32], at: usize, level: HalfedgeTable)
     requires { ⌜ (Housed level at (now vert)) × (Housed level at (now edge)) ⌝ }
     requires { ⌜ SmallEdges level at (now edge) ⌝ }
@@ -282,23 +289,67 @@ fn next_verts(vert: &mut [u32], edge: &[u32], at: usize, level: HalfedgeTable)
     }
 }
 
-// The same of EDGE, which takes the level's TWIN too.
-fn next_edges(edge: &mut [u32], twin: &[u32], at: usize, level: HalfedgeTable)
+// Writes the split of a triangle in EDGE.
+fn put_edges(
+    edge: &mut [u32],
+    at: usize,
+    level: HalfedgeTable,
+    first: usize,
+    a_above: bool,
+    b_above: bool,
+    c_above: bool,
+)
+    requires { ⌜ (Fits (level .halfedges) at first (now edge)) × (level .edges ≤ 4194304) ⌝ }
+    requires { ⌜ (cell (now edge) (at + first) < 4194304) × (cell (now edge) (at + first + 1) < 4194304) × (cell (now edge) (at + first + 2) < 4194304) ⌝ }
+    ensures { λ _. ⌜ now (edge .exit) ≡ withSplitEdges (now (edge .entry)) at level first «a_above» «b_above» «c_above» ⌝ }
+{
+    let edges = three(edge, at + first);
+    let split = split_edges(edges, a_above, b_above, c_above, level.edges, first);
+    put(edge, at + level.halfedges, level.halfedges, first, split);
+}
+
+// Whether a halfedge of the level that stands at an offset is above its twin.
+fn above_at(twin: &[u32], at: usize, halfedge: usize) -> bool
+    requires { ⌜ at + halfedge < length (now twin) ⌝ }
+    ensures { λ r. ⌜ r ≡ isAbove (cell (now (twin .entry)) (at + halfedge)) halfedge ⌝ }
+{
+    is_above(twin[at + halfedge], halfedge)
+}
+
+// The next level's EDGE, which takes the level's TWIN too, whatever its twins are: after the cage.
+fn cage_edges(edge: &mut [u32], twin: &[u32], at: usize, level: HalfedgeTable)
     requires { ⌜ (Housed level at (now edge)) × (Housed level at (now twin)) ⌝ }
     requires { ⌜ SmallEdges level at (now edge) ⌝ }
     ensures { λ _. ⌜ now (edge .exit) ≡ withNext (now (edge .entry)) at (level .halfedges) (nextEdges (part (now (twin .entry)) at (level .halfedges)) (part (now (edge .entry)) at (level .halfedges)) (level .edges)) ⌝ }
 {
     let halfedges = level.halfedges;
-    let edges = level.edges;
     let mut first = 0;
     while first < halfedges {
-        let split = split_edges(
-            three(edge, at + first),
-            three(twin, at + first),
-            edges,
-            first,
-        );
-        put(edge, at + halfedges, halfedges, first, split);
+        let a = above_at(twin, at, first);
+        let b = above_at(twin, at, first + 1);
+        let c = above_at(twin, at, first + 2);
+        put_edges(edge, at, level, first, a, b, c);
+        first += 3;
+    }
+}
+
+// The same after a level above the cage, where every middle triangle comes after the corner triangles that it lies across from.
+fn edges_above(edge: &mut [u32], twin: &[u32], at: usize, level: HalfedgeTable)
+    requires { ⌜ (Housed level at (now edge)) × (Housed level at (now twin)) ⌝ }
+    requires { ⌜ (SmallEdges level at (now edge)) × (Descended level at (now twin)) ⌝ }
+    ensures { λ _. ⌜ now (edge .exit) ≡ withNext (now (edge .entry)) at (level .halfedges) (nextEdges (part (now (twin .entry)) at (level .halfedges)) (part (now (edge .entry)) at (level .halfedges)) (level .edges)) ⌝ }
+{
+    let halfedges = level.halfedges;
+    let corners = 3 * (halfedges / 4);
+    let mut first = 0;
+    while first < corners {
+        let a = above_at(twin, at, first);
+        let c = above_at(twin, at, first + 2);
+        put_edges(edge, at, level, first, a, false, c);
+        first += 3;
+    }
+    while first < halfedges {
+        put_edges(edge, at, level, first, true, true, true);
         first += 3;
     }
 }
@@ -316,10 +367,11 @@ pub fn next_level(
     ensures { λ _. ⌜ tables (now (twin .exit)) (now (vert .exit)) (now (edge .exit)) ≡ withNextLevel level at (tables (now (twin .entry)) (now (vert .entry)) (now (edge .entry))) ⌝ }
 {
     next_verts(vert, edge, at, level);
-    next_edges(edge, twin, at, level);
     if at == 0 {
+        cage_edges(edge, twin, at, level);
         cage_twins(twin, at, level);
     } else {
+        edges_above(edge, twin, at, level);
         twins_above(twin, at, level);
     }
 }

@@ -5,20 +5,30 @@ use Rattle.connectivity.specs.InPlace.{withNextLevel}
 use Rattle.connectivity.proofs.level.next_level.Statement.{statement}
 use Rattle.connectivity.proofs.level.next_level.Tie as tie
 
+-- above the cage: where the function started
+abbrev start : tie.Else1 → tie.Start
+start i = i .before .before .before .before .before .before .before .before .before
+
 next-verts-requires : tie.Need-next-verts-requires
 next-verts-requires c κs = search needs
 
-next-edges-requires : tie.Need-next-edges-requires
-next-edges-requires c κs = search needs
+cage-edges-requires : tie.Need-cage-edges-requires
+cage-edges-requires c κs = search needs
 
 cage-twins-requires : tie.Need-cage-twins-requires
 cage-twins-requires c κs = search needs
 
+edges-above-requires : tie.Need-edges-above-requires
+edges-above-requires c κs =
+    let i = c .before .before in
+    let p = start i .pre in
+    ((p .edge, p .twin), (p .edges, p .rows (i .if1 .left)))
+
 twins-above-requires : tie.Need-twins-above-requires
 twins-above-requires c κs =
-    let i = c .before in
-    let s = i .before .before .before .before .before .before .before .before .before .before .before .before .before .before in
-    (s .pre .twin, s .pre .twins, s .pre .rows (i .if1 .left))
+    let i = c .before .before .before .before .before .before in
+    let p = start i .pre in
+    (p .twin, p .twins, p .rows (i .if1 .left))
 
 same-length : tie.Need-same-length
 same-length c = search needs
@@ -33,9 +43,9 @@ returns : tie.Need-returns
 unfolding withNextLevel
 returns c =
     let t = c .before .before in
-    let e = t .before .before .before .before .before in
-    let v = e .before .before .before .before .before in
-    λ i. tables (t .cage-twins .ensures i) (v .next-verts .ensures i) (e .next-edges .ensures i)
+    let e = t .before .before .before .before in
+    let v = e .before .before .before .before .before .before in
+    λ i. tables (t .cage-twins .ensures i) (v .next-verts .ensures i) (e .cage-edges .ensures i)
 
 same-length-4 : tie.Need-same-length-4
 same-length-4 c = search needs
@@ -50,17 +60,18 @@ returns-2 : tie.Need-returns-2
 unfolding withNextLevel
 returns-2 c =
     let t = c .before .before in
-    let e = t .before .before .before .before .before in
-    let v = e .before .before .before .before .before in
-    λ i. tables (t .twins-above .ensures i) (v .next-verts .ensures i) (e .next-edges .ensures i)
+    let e = t .before .before .before .before in
+    let v = e .before .before .before .before .before .before in
+    λ i. tables (t .twins-above .ensures i) (v .next-verts .ensures i) (e .edges-above .ensures i)
 
 pub next-level-spec : {M : Type 1} → statement M
 next-level-spec =
     tie.close
     (tie.spec
     next-verts-requires
-    next-edges-requires
+    cage-edges-requires
     cage-twins-requires
+    edges-above-requires
     twins-above-requires
     same-length
     same-length-2

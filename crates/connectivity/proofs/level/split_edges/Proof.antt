@@ -9,32 +9,17 @@ use Rattle.connectivity.proofs.level.split_edges.Tie as tie
 array-read-edge-halves : tie.Need-array-read-edge-halves
 array-read-edge-halves c = search needs
 
-array-read-edge-halves-2 : tie.Need-array-read-edge-halves-2
-array-read-edge-halves-2 c = search needs
-
 edge-halves-requires : tie.Need-edge-halves-requires
 edge-halves-requires c κs = search needs
 
-array-read-edge-halves-3 : tie.Need-array-read-edge-halves-3
-array-read-edge-halves-3 c = search needs
-
-array-read-edge-halves-4 : tie.Need-array-read-edge-halves-4
-array-read-edge-halves-4 c = search needs
-
-add-edge-halves : tie.Need-add-edge-halves
-add-edge-halves c = search needs
+array-read-edge-halves-2 : tie.Need-array-read-edge-halves-2
+array-read-edge-halves-2 c = search needs
 
 edge-halves-requires-2 : tie.Need-edge-halves-requires-2
 edge-halves-requires-2 c κs = search needs
 
-array-read-edge-halves-5 : tie.Need-array-read-edge-halves-5
-array-read-edge-halves-5 c = search needs
-
-array-read-edge-halves-6 : tie.Need-array-read-edge-halves-6
-array-read-edge-halves-6 c = search needs
-
-add-edge-halves-2 : tie.Need-add-edge-halves-2
-add-edge-halves-2 c = search needs
+array-read-edge-halves-3 : tie.Need-array-read-edge-halves-3
+array-read-edge-halves-3 c = search needs
 
 edge-halves-requires-3 : tie.Need-edge-halves-requires-3
 edge-halves-requires-3 c κs = search needs
@@ -48,32 +33,32 @@ add-count-up c = search needs
 count-up-requires : tie.Need-count-up-requires
 count-up-requires c κs = search needs
 
-array-read-t17 : tie.Need-array-read-t17
-array-read-t17 c = search needs
+array-read-t15 : tie.Need-array-read-t15
+array-read-t15 c = search needs
 
-array-read-t14 : tie.Need-array-read-t14
-array-read-t14 c = search needs
+array-read-t27 : tie.Need-array-read-t27
+array-read-t27 c = search needs
 
-array-read-t35 : tie.Need-array-read-t35
-array-read-t35 c = search needs
+array-read-t30 : tie.Need-array-read-t30
+array-read-t30 c = search needs
 
-array-read-t38 : tie.Need-array-read-t38
-array-read-t38 c = search needs
+array-read-t33 : tie.Need-array-read-t33
+array-read-t33 c = search needs
 
-array-read-t41 : tie.Need-array-read-t41
-array-read-t41 c = search needs
+array-read-t36 : tie.Need-array-read-t36
+array-read-t36 c = search needs
 
-array-read-t44 : tie.Need-array-read-t44
-array-read-t44 c = search needs
+array-read-t39 : tie.Need-array-read-t39
+array-read-t39 c = search needs
 
-array-read-t48 : tie.Need-array-read-t48
-array-read-t48 c = search needs
+array-read-t43 : tie.Need-array-read-t43
+array-read-t43 c = search needs
 
-array-read-t51 : tie.Need-array-read-t51
-array-read-t51 c = search needs
+array-read-t46 : tie.Need-array-read-t46
+array-read-t46 c = search needs
 
-array-read-t54 : tie.Need-array-read-t54
-array-read-t54 c = search needs
+array-read-t49 : tie.Need-array-read-t49
+array-read-t49 c = search needs
 
 returns : tie.Need-returns
 unfolding splitEdges
@@ -86,26 +71,21 @@ split-edges-spec =
     tie.close
     (tie.spec
     array-read-edge-halves
-    array-read-edge-halves-2
     edge-halves-requires
-    array-read-edge-halves-3
-    array-read-edge-halves-4
-    add-edge-halves
+    array-read-edge-halves-2
     edge-halves-requires-2
-    array-read-edge-halves-5
-    array-read-edge-halves-6
-    add-edge-halves-2
+    array-read-edge-halves-3
     edge-halves-requires-3
     mul-count-up
     add-count-up
     count-up-requires
-    array-read-t17
-    array-read-t14
-    array-read-t35
-    array-read-t38
-    array-read-t41
-    array-read-t44
-    array-read-t48
-    array-read-t51
-    array-read-t54
+    array-read-t15
+    array-read-t27
+    array-read-t30
+    array-read-t33
+    array-read-t36
+    array-read-t39
+    array-read-t43
+    array-read-t46
+    array-read-t49
     returns)

@@ -8,9 +8,8 @@ use native.Mathlib.Omega.{arith}
 use Rattle.laws.specs.Parts.{part}
 use Rattle.halfedges.specs.Cage.{NEXT}
 use Rattle.connectivity.specs.NextLevel.{newTwin}
-use Rattle.connectivity.specs.InPlace.{Housed}
-use Rattle.connectivity.proofs.Triangles.{Filled, filled-start, filled-long, twins-on, twins-done}
-use Rattle.connectivity.proofs.Descent.{Cornered, way-round, quarter-whole, fits, corner-there, corner-on, middle-there}
+use Rattle.connectivity.proofs.Triangles.{Filled, housed-as, filled-start, filled-long, filled-fits, twins-on, twins-done}
+use Rattle.connectivity.proofs.Descent.{Cornered, way-round, quarter-whole, corner-there, corner-on, middle-there}
 use Rattle.connectivity.proofs.level.twins_above.Statement.{statement}
 use Rattle.connectivity.proofs.level.twins_above.Tie as tie
 
@@ -36,7 +35,7 @@ module _ (s : tie.Start Inv-loop μ-loop Inv-loop2 μ-loop2) where
   So-far = Filled (s .args .level .halfedges) (s .args .at) (newTwin (part (s .args .twin .now) (s .args .at) (s .args .level .halfedges))) (s .args .twin .now)
 
   four : s .args .level .halfedges ≡ 4 * quarter
-  four = quarter-whole (s .pre) .1
+  four = quarter-whole (s .pre .0) (s .pre .2) .1
 
   few : quarter ≤ 1048576
   few = omega (arith, s .pre .0 .small .halfedges)
@@ -53,7 +52,7 @@ module _ (i : tie.In-loop Inv-loop μ-loop Inv-loop2 μ-loop2) where
   across = 3 * quarter start + corner
 
   three : corner + 3 ≤ quarter start
-  three = omega (arith, i .before .loop .inv .first, quarter-whole (start .pre) .0, i .loop-test .taken)
+  three = omega (arith, i .before .loop .inv .first, quarter-whole (start .pre .0) (start .pre .2) .0, i .loop-test .taken)
 
   round : (across + 1 ≡ NEXT across) × (across + 2 ≡ NEXT (across + 1)) × (across ≡ NEXT (across + 2))
   round = way-round across (omega (arith, i .before .loop .inv .first))
@@ -100,7 +99,7 @@ put-corner-requires : tie.Need-put-corner-requires Inv-loop μ-loop Inv-loop2 μ
 put-corner-requires c κs =
     let i = c .before in
     let f = i .before .loop .inv .filled in
-    (fits (start i .pre) f (omega (arith, three i)), corner-there (start i .pre) f (i .loop-test .taken) _ _ refl (round i .0))
+    (filled-fits (start i .pre .0) _ f (omega (arith, three i)), corner-there (start i .pre) f (i .loop-test .taken) _ _ refl (round i .0))
 
 add-put-corner-2 : tie.Need-add-put-corner-2 Inv-loop μ-loop Inv-loop2 μ-loop2
 add-put-corner-2 c = let i = c .before .before .before .before .before in omega (arith, few (start i), three i)
@@ -115,7 +114,7 @@ put-corner-requires-2 : tie.Need-put-corner-requires-2 Inv-loop μ-loop Inv-loop
 put-corner-requires-2 c κs =
     let f = one (c .before .before .before) in
     let i = c .before .before .before .before .before in
-    (fits (start i .pre) f (omega (arith, three i)), corner-there (start i .pre) f (omega (arith, three i)) _ _ (omega arith) (round i .1))
+    (filled-fits (start i .pre .0) _ f (omega (arith, three i)), corner-there (start i .pre) f (omega (arith, three i)) _ _ (omega arith) (round i .1))
 
 add-put-corner-5 : tie.Need-add-put-corner-5 Inv-loop μ-loop Inv-loop2 μ-loop2
 add-put-corner-5 c = let i = c .before .before .before .before .before .before .before .before .before in omega (arith, few (start i), three i)
@@ -127,7 +126,7 @@ put-corner-requires-3 : tie.Need-put-corner-requires-3 Inv-loop μ-loop Inv-loop
 put-corner-requires-3 c κs =
     let f = two (c .before .before .before) in
     let i = c .before .before .before .before .before .before .before .before .before in
-    (fits (start i .pre) f (omega (arith, three i)), corner-there (start i .pre) f (omega (arith, three i)) _ _ (omega arith) (round i .2))
+    (filled-fits (start i .pre .0) _ f (omega (arith, three i)), corner-there (start i .pre) f (omega (arith, three i)) _ _ (omega arith) (round i .2))
 
 add-corner : tie.Need-add-corner Inv-loop μ-loop Inv-loop2 μ-loop2
 add-corner c = let i = c .before .before .before .before .before .before .before .before .before .before .before .before in omega (arith, few (start i), three i)
@@ -158,7 +157,7 @@ add-put-middle-2 c = let i = c .before in omega (arith, few (start2 i), i .loop2
 put-middle-requires : tie.Need-put-middle-requires Inv-loop μ-loop Inv-loop2 μ-loop2
 put-middle-requires c κs =
     let i = c .before in
-    (fits (start2 i .pre) (so-far i) (omega (arith, four (start2 i), i .loop2-test .taken)), middle-there (start2 i .pre) (so-far i) (i .loop2-test .taken))
+    (filled-fits (start2 i .pre .0) _ (so-far i) (omega (arith, four (start2 i), i .loop2-test .taken)), middle-there (start2 i .pre) (so-far i) (i .loop2-test .taken))
 
 add-middle : tie.Need-add-middle Inv-loop μ-loop Inv-loop2 μ-loop2
 add-middle c = let i = c .before .before .before .before in omega (arith, few (start2 i), i .loop2-test .taken)
@@ -169,10 +168,8 @@ loop2-less c = let i = c .before .before .before .before in omega (arith, i .loo
 loop2-again : tie.Need-loop2-again Inv-loop μ-loop Inv-loop2 μ-loop2
 loop2-again c xs f =
     let i = c .before .before .before .before in
-    let p = start2 i .pre .0 in
     let g = i .before .loop2 .inv xs f in
-    let h : Housed (start2 i .args .level) (start2 i .args .at) xs = record { small = p .small; whole = p .whole; room = omega (arith, p .room, g .going .long, filled-long p _ (so-far i)) } in
-    simp (← add-assoc) (twins-on h g (omega (arith, four (start2 i), i .loop2-test .taken)) refl refl (c .before .before .put-middle .ensures))
+    simp (← add-assoc) (twins-on (housed-as (start2 i .pre .0) (so-far i) g) g (omega (arith, four (start2 i), i .loop2-test .taken)) refl refl (c .before .before .put-middle .ensures))
 
 same-length : tie.Need-same-length Inv-loop μ-loop Inv-loop2 μ-loop2
 same-length c = filled-long (c .before .before .before .before .before .pre .0) _ (there (c .before))
