@@ -1,5 +1,9 @@
-// What the engines tuned by hand share: how a triangle's cells are written, and points of 32 bits.
+// What the engines tuned by hand share: the tables, a table at a time and a triangle at a time, points of 32 bits, and what they
+// do for a level's points alike. They do the levels above the cage, where more is known of each row. The cage itself, a small
+// part of the work, is left to the plain engine.
 #pragma once
+
+#include <cstring>
 
 #include "levels.h"
 
@@ -19,11 +23,27 @@ inline void put(uint32_t* __restrict fresh, uint32_t halfedges, uint32_t h, Thre
   middle[0] = fourth.a, middle[1] = fourth.b, middle[2] = fourth.c;
 }
 
+// The twin in row 3h, 3·NEXT(t)+2 of a twin whose residue by 3 is known, so that NEXT needs no division.
+inline uint32_t outer(uint32_t t, uint32_t residue) { return t == kNoTwin ? t : 3 * t + (residue == 2 ? -4 : 5); }
+
 // The twin in row 3h+2, 3·t.
 inline uint32_t inner(uint32_t t) { return t == kNoTwin ? t : 3 * t; }
 
 inline void put_twins(uint32_t* __restrict fresh, uint32_t halfedges, uint32_t h, Three outers, Three inners) {
   put(fresh, halfedges, h, outers, from(3 * halfedges + h), {inners.c, inners.a, inners.b}, from(3 * h + 1, 3));
+}
+
+// Twins in rows 3h and 3h+2 leave 2 and 0 by 3, and those in the other two rows are known.
+inline void next_twins(const uint32_t* __restrict twin, uint32_t* __restrict fresh, uint32_t halfedges) {
+  const uint32_t middle = halfedges / 4 * 3;
+  const auto corner = [=](uint32_t h, uint32_t b, uint32_t residue) {
+    const uint32_t a = twin[h], c = twin[h + 2];
+    put_twins(fresh, halfedges, h, {outer(a, 2), outer(b, residue), outer(c, 0)}, {inner(a), 3 * b, inner(c)});
+  };
+  for (uint32_t h = 0, b = middle; h < middle; h += 9, b += 3)
+    corner(h, b, 0), corner(h + 3, b + 1, 1), corner(h + 6, b + 2, 2);
+  for (uint32_t h = middle, t = 1; h < halfedges; h += 3, t += 9)
+    put_twins(fresh, halfedges, h, from(3 * t + 5, 9), from(3 * t, 9));
 }
 
 inline void next_verts(const uint32_t* __restrict vert, const uint32_t* __restrict edge, uint32_t* __restrict fresh, Counts n) {
@@ -42,6 +62,14 @@ inline void put_edges(uint32_t* __restrict fresh, Counts n, uint32_t h, Three ed
 
 // h > t: the marker, as a signed number, is lower than every halfedge.
 inline uint32_t above(uint32_t h, uint32_t t) { return int32_t(h) > int32_t(t); }
+
+// Rows 3h+1 and 3H+h are twins, the second one the higher.
+inline void next_edges(const uint32_t* __restrict twin, const uint32_t* __restrict edge, uint32_t* __restrict fresh, Counts n) {
+  const uint32_t middle = n.halfedges / 4 * 3;
+  for (uint32_t h = 0; h < middle; h += 3)
+    put_edges(fresh, n, h, {edge[h], edge[h + 1], edge[h + 2]}, {above(h, twin[h]), 0, above(h + 2, twin[h + 2])});
+  for (uint32_t h = middle; h < n.halfedges; h += 3) put_edges(fresh, n, h, from(edge[h]), {1, 1, 1});
+}
 
 // A point, or a numerator: 32 bits are enough but for a cage vertex, whose number of corners may be large.
 struct Point {
@@ -69,4 +97,42 @@ inline void add(int32_t* sums, uint32_t v, Point p) { store(sums, v, load(sums, 
 inline int32_t place_of(int64_t corners, int64_t vertex, int64_t sum) {
   const int64_t top = 10 * corners * vertex + 6 * sum + 8 * corners, bottom = 16 * corners;
   return int32_t(top < 0 ? -1 - (-1 - top) / bottom : top / bottom);
+}
+
+// Each vertex's corners, which a cage's vertices keep.
+inline std::vector<uint32_t> count_corners(const Cage& cage) {
+  std::vector<uint32_t> corners(cage.points.size() / 3);
+  for (uint32_t v : cage.vert) ++corners[v];
+  return corners;
+}
+
+// Sums become places as if no vertex lay on the border. Those added to the cage have six corners.
+inline void settle(const std::vector<uint32_t>& corners, const int32_t* __restrict points, int32_t* __restrict sums,
+                   size_t cells) {
+  const size_t own = 3 * corners.size();
+  for (size_t i = 0; i < own; ++i) sums[i] = place_of(corners[i / 3], points[i], sums[i]);
+  for (size_t i = own; i < cells; ++i) sums[i] = (10 * points[i] + sums[i] + 8) >> 4;
+}
+
+// An edge's cells hold 3a+3b+c from its lower halfedge until the higher one brings d.
+inline void add_edge(int32_t* edge_points, uint32_t e, bool higher, Point a, Point b, Point c) {
+  if (higher)
+    store(edge_points, e, (load(edge_points, e) + c) >> 3);
+  else
+    store(edge_points, e, (a + b) * 3 + c + 4);
+}
+
+// All levels, with put_points(level, vertex points, edge points) for the points of the next one. It finds the first made 0.
+template <class PutPoints>
+void refine_above(const Cage& cage, int depth, Tables& lent, PutPoints put_points) {
+  each_level(cage, depth, lent, [&](const Level& old, const Room& fresh) {
+    const Counts n = old.counts;
+    if (n.halfedges == cage.twin.size()) return next_plain(old, fresh);
+    next_twins(old.twin, fresh.twin, n.halfedges);
+    next_verts(old.vert, old.edge, fresh.vert, n);
+    next_edges(old.twin, old.edge, fresh.edge, n);
+    const size_t cells = 3 * size_t(n.vertices);
+    std::memset(fresh.points, 0, cells * sizeof(int32_t));
+    put_points(old, fresh.points, fresh.points + cells);
+  });
 }

@@ -1,44 +1,9 @@
-// Tuned by hand: a table at a time, and the points by scattering each triangle's contributions, or those of the four
-// triangles that one triangle became, which share three edges and most corners. The cage itself, a small part of the work,
-// is left to the plain engine: above it, more is known of each row.
-#include <cstring>
-
+// Tuned by hand: the points in one pass that scatters each triangle's contributions, or those of the four triangles that one
+// triangle became, which share three edges and most corners. The border halfedges are listed.
 #include "by_hand.h"
 #include "engines.h"
 
 namespace {
-
-// 3·NEXT(t)+2 of a twin whose residue by 3 is known, so that NEXT needs no division.
-inline uint32_t outer(uint32_t t, uint32_t residue) { return t == kNoTwin ? t : 3 * t + (residue == 2 ? -4 : 5); }
-
-// Twins in rows 3h and 3h+2 leave 2 and 0 by 3, and those in the other two rows are known.
-void next_twins(const uint32_t* __restrict twin, uint32_t* __restrict fresh, uint32_t halfedges) {
-  const uint32_t middle = halfedges / 4 * 3;
-  const auto corner = [=](uint32_t h, uint32_t b, uint32_t residue) {
-    const uint32_t a = twin[h], c = twin[h + 2];
-    put_twins(fresh, halfedges, h, {outer(a, 2), outer(b, residue), outer(c, 0)}, {inner(a), 3 * b, inner(c)});
-  };
-  for (uint32_t h = 0, b = middle; h < middle; h += 9, b += 3)
-    corner(h, b, 0), corner(h + 3, b + 1, 1), corner(h + 6, b + 2, 2);
-  for (uint32_t h = middle, t = 1; h < halfedges; h += 3, t += 9)
-    put_twins(fresh, halfedges, h, from(3 * t + 5, 9), from(3 * t, 9));
-}
-
-// Rows 3h+1 and 3H+h are twins, the second one the higher.
-void next_edges(const uint32_t* __restrict twin, const uint32_t* __restrict edge, uint32_t* __restrict fresh, Counts n) {
-  const uint32_t middle = n.halfedges / 4 * 3;
-  for (uint32_t h = 0; h < middle; h += 3)
-    put_edges(fresh, n, h, {edge[h], edge[h + 1], edge[h + 2]}, {above(h, twin[h]), 0, above(h + 2, twin[h + 2])});
-  for (uint32_t h = middle; h < n.halfedges; h += 3) put_edges(fresh, n, h, from(edge[h]), {1, 1, 1});
-}
-
-// An edge's cells hold 3a+3b+c from its lower halfedge until the higher one brings d.
-inline void add_edge(int32_t* edge_points, uint32_t e, bool higher, Point a, Point b, Point c) {
-  if (higher)
-    store(edge_points, e, (load(edge_points, e) + c) >> 3);
-  else
-    store(edge_points, e, (a + b) * 3 + c + 4);
-}
 
 void scatter(const Level& old, int32_t* __restrict sums, int32_t* __restrict edge_points) {
   const uint32_t* __restrict twin = old.twin, * __restrict vert = old.vert, * __restrict edge = old.edge;
@@ -78,11 +43,9 @@ void scatter_fours(const Level& old, int32_t* __restrict sums, int32_t* __restri
 struct Known {
   std::vector<uint32_t> corners, border;
 
-  explicit Known(const Cage& cage) : corners(cage.points.size() / 3) {
-    for (uint32_t h = 0; h < cage.twin.size(); ++h) {
-      ++corners[cage.vert[h]];
+  explicit Known(const Cage& cage) : corners(count_corners(cage)) {
+    for (uint32_t h = 0; h < cage.twin.size(); ++h)
       if (cage.twin[h] == kNoTwin) border.push_back(h);
-    }
   }
 
   // A border halfedge h gives 3h and 3·NEXT(h)+2.
@@ -92,13 +55,6 @@ struct Known {
       border.push_back(3 * next(border[i]) + 2);
       border[i] *= 3;
     }
-  }
-
-  // Sums become places as if no vertex lay on the border. Those added to the cage have six corners.
-  void settle(const int32_t* __restrict points, int32_t* __restrict sums, size_t cells) const {
-    const size_t own = 3 * corners.size();
-    for (size_t i = 0; i < own; ++i) sums[i] = place_of(corners[i / 3], points[i], sums[i]);
-    for (size_t i = own; i < cells; ++i) sums[i] = (10 * points[i] + sums[i] + 8) >> 4;
   }
 
   // The border is short beside the level, so it comes last, over what the triangles left there.
@@ -118,18 +74,11 @@ struct Known {
 template <class Scatter>
 void refine(const Cage& cage, int depth, Tables& lent, Scatter scatter_all) {
   Known known(cage);
-  each_level(cage, depth, lent, [&](const Level& old, const Room& fresh) {
-    const Counts n = old.counts;
-    if (n.halfedges == cage.twin.size()) return next_plain(old, fresh);
+  refine_above(cage, depth, lent, [&](const Level& old, int32_t* vertex_points, int32_t* edge_points) {
     known.refine_border();
-    next_twins(old.twin, fresh.twin, n.halfedges);
-    next_verts(old.vert, old.edge, fresh.vert, n);
-    next_edges(old.twin, old.edge, fresh.edge, n);
-    const size_t cells = 3 * size_t(n.vertices);
-    std::memset(fresh.points, 0, cells * sizeof(int32_t));
-    scatter_all(old, fresh.points, fresh.points + cells);
-    known.settle(old.points, fresh.points, cells);
-    known.put_border(old, fresh.points, fresh.points + cells);
+    scatter_all(old, vertex_points, edge_points);
+    settle(known.corners, old.points, vertex_points, 3 * size_t(old.counts.vertices));
+    known.put_border(old, vertex_points, edge_points);
   });
 }
 
