@@ -1,6 +1,5 @@
 -- Vertices and their corners, counted, in tables that pass the rules.
 --     vertices-counted              the vertices in VERT are V
---     vertices-at-most              V is at most H
 --     corners-at-most               a vertex has at most F corners, one in a triangle
 --     as-many-borders               as many border halfedges end at a vertex as leave it
 --     one-border-leaves             at most one leaves it
@@ -20,7 +19,6 @@ use Rattle.laws.proofs.Tests.{true-any, false-any}
 use Rattle.laws.proofs.Least.{least}
 use Rattle.laws.proofs.Sums.{sum-at-most}
 use Rattle.laws.proofs.Sums.{sum-same, sum-add, sum-ones, sum-triples}
-use Rattle.laws.proofs.Counts.{count-at-most}
 use Rattle.laws.proofs.Turnings.{sum-turned}
 use Rattle.laws.proofs.Pigeonhole.{some-counted, count-at-most-one, sum-of-counts, and-both}
 use Rattle.halfedges.specs.Cage.{NEXT, F, marker, cell, border}
@@ -79,11 +77,6 @@ module _ {c : Tables} {v : ℕ} (s : Shaped c) (r : Ruled c v) where
   vertices-counted =
       sym (sum-of-counts (length (c .vert)) v (lowest (c .vert)) (cell (c .vert)) (λ h l e. r .placed .below h (rw (s .vert-long) at l)))
       ∙ sum-same v _ (λ u. 1) one-lowest ∙ sum-ones v
-
-  pub vertices-at-most : v ≤ H c
-  unfolding verticesIn
-  vertices-at-most =
-      omega (arith, vertices-counted, s .vert-long, count-at-most (length (c .vert)) (lowest (c .vert)))
 
   pub corners-at-most : (u : ℕ) → cornersAt c u ≤ F (H c)
   unfolding cornersAt
