@@ -1,4 +1,4 @@
-// What the two engines written by hand share: where the levels stand in the lent tables.
+// What the engines written by hand share: where the levels stand in the lent tables.
 #pragma once
 
 #include <algorithm>

@@ -29,7 +29,7 @@ inline void meet(int32_t* vertex_points, uint32_t v, Point p, Point q) {
   store(vertex_points, v, {met(now.x, p.x, q.x), met(now.y, p.y, q.y), met(now.z, p.z, q.z)});
 }
 
-// Where each level's points of vertices and of edges stand.
+// Where the next level's points of vertices and of edges stand.
 struct Fresh {
   int32_t *vertices, *edges;
 };

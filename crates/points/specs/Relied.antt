@@ -1,4 +1,5 @@
--- What the point rules rely on of a level's tables. It follows from rules 1 and 3 to 7, and from the limits.
+-- What the point rules rely on of a level's tables. It follows from rules 1 and 3 to 7, and from the limits; that corners are
+-- known, from demand 3.
 use Prim.Native.Nat.{ℕ, _%_, _≤_, _<_}
 use mathlib.Core.Path.{_≡_}
 use mathlib.Core.Logic.{_≢_, _⊎_}
