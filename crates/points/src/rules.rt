@@ -7,9 +7,7 @@ ghost use Rattle.points.specs.PointRules.{E1, V3};
 ghost use Rattle.points.specs.Operations.{most-coordinate};
 ghost use Rattle.points.specs.Relied.{most-corners};
 ghost use Rattle.points.specs.Passes.{started, finished, met};
-use rounding::eighth;
 use rounding::rounded;
-use rounding::sixteenth;
 
 // The largest coordinate of a cage.
 const MOST_COORDINATE: i32 = 1048576;
@@ -39,7 +37,8 @@ pub fn finished_edge(sum: i32, d: i32) -> i32
     requires { ⌜ (natAbs sum ≤ most-coordinate * 7) × (natAbs d ≤ most-coordinate) ⌝ }
     ensures { λ r. ⌜ r ≡ finished sum d ⌝ }
 {
-    eighth(sum + d)
+    let numerator = (sum + d) as i64;
+    rounded(numerator, 8)
 }
 
 // A border vertex meets a neighbour: V.2 once it has met both.
@@ -50,7 +49,8 @@ pub fn border_vertex(now: i32, vertex: i32, neighbour: i32) -> i32
     if now <= MOST_COORDINATE {
         return 6 * vertex + neighbour + MARK;
     }
-    eighth(now - MARK + neighbour)
+    let numerator = (now - MARK + neighbour) as i64;
+    rounded(numerator, 8)
 }
 
 // V.3 with six corners, (10v+s)/16.
@@ -58,7 +58,8 @@ pub fn added_vertex(vertex: i32, sum: i32) -> i32
     requires { ⌜ (natAbs vertex ≤ most-coordinate) × (natAbs sum ≤ most-coordinate * 6) ⌝ }
     ensures { λ r. ⌜ r ≡ V3 6 vertex sum ⌝ }
 {
-    sixteenth(10 * vertex + sum)
+    let numerator = (10 * vertex + sum) as i64;
+    rounded(numerator, 16)
 }
 
 // V.3: the new place of an inner vertex, with its number of corners and the sum over its spokes' far ends.

@@ -1,4 +1,3 @@
 pub mod Floor
 pub mod Nearest
 pub mod Scaled
-pub mod Shift

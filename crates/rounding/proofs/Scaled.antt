@@ -1,6 +1,5 @@
 -- A numerator and its denominator, both scaled by one number, have the same floor and round alike: `floor-scaled`, `round-scaled`.
--- A scaled sum is the sum of the scaled: `scaled-sum`.
--- So a rounding over an even denominator is the floor with half a denominator more: `round-half`. Assumes nothing.
+-- A scaled sum is the sum of the scaled: `scaled-sum`. Assumes nothing.
 use Prim.Native.Nat.{ℕ, zero, suc, _+_, _*_, _/_, _<_}
 use mathlib.Core.Path.{_≡_, sym, ap, _∙_}
 use native.Mathlib.Nat.{add-zero, mul-assoc, mul-comm, mul-suc, mul-add-div, mul-div-mul-left, div-div-eq-div-mul, div-eq-of-lt}
@@ -15,7 +14,7 @@ quotient-scaled c a k =
     sym (div-div-eq-div-mul (suc c * a + c) (suc c) k)
     ∙ rw (mul-add-div {m = suc c} (omega arith) a c, div-eq-of-lt {n = c} {m = suc c} (omega arith), add-zero a)
 
-pub floor-scaled : (c : ℕ) → 0 < c → (m : ℤ) (k : ℕ) → floor (pos c *ℤ m) (c * k) ≡ floor m k
+floor-scaled : (c : ℕ) → 0 < c → (m : ℤ) (k : ℕ) → floor (pos c *ℤ m) (c * k) ≡ floor m k
 floor-scaled c some (pos a) k = ap pos (mul-div-mul-left a k some)
 floor-scaled (suc c) some (negsuc a) k =
     let e : suc c * suc a ≡ suc (suc c * a + c) = omega (arith, mul-suc (suc c) a) in
@@ -47,7 +46,3 @@ round-scaled c some n d =
     ap (λ k. floor (pos 2 *ℤ (pos c *ℤ n) +ℤ pos (c * d)) k) (sym (mul-assoc 2 c d) ∙ rw (mul-comm 2 c) (mul-assoc c 2 d))
     ∙ ap (λ z. floor z (c * (2 * d))) (sym (scaled-top c n d))
     ∙ floor-scaled c some (pos 2 *ℤ n +ℤ pos d) (2 * d)
-
-pub round-half : (n : ℤ) (d : ℕ) → round n (2 * d) ≡ floor (n +ℤ pos d) (2 * d)
-unfolding round
-round-half n d = ap (λ z. floor z (2 * (2 * d))) (sym (scaled-sum 2 n (pos d))) ∙ floor-scaled 2 (omega arith) (n +ℤ pos d) (2 * d)

@@ -1,6 +1,6 @@
 // Rounding: a numerator over a positive denominator, down, and to the nearest whole number.
 ghost use mathlib.Core.Path.{_≡_};
-ghost use Prim.Native.Nat.{_+_, _-_, _*_, _^_, _≤_, _<_};
+ghost use Prim.Native.Nat.{_-_, _*_, _^_, _≤_, _<_};
 ghost use lib.IntN.{pos, natAbs};
 ghost use lib.Signed.{_<ℤ_};
 ghost use Rattle.rounding.specs.Rounding.{floor, round};
@@ -27,20 +27,4 @@ pub fn rounded(numerator: i64, denominator: i64) -> i32
     let bottom = 2 * denominator;
     let whole = floor_division(top, bottom);
     whole as i32
-}
-
-// Rounded over eight, halves going up: half of eight more, and a shift, which rounds down. No number is wider than 32 bits and none is divided, so that a loop can round several at a time.
-pub fn eighth(numerator: i32) -> i32
-    requires { ⌜ natAbs numerator + 4 < 2 ^ 31 ⌝ }
-    ensures { λ r. ⌜ r ≡ round numerator 8 ⌝ }
-{
-    (numerator + 4) >> 3
-}
-
-// Rounded over sixteen, in the same way.
-pub fn sixteenth(numerator: i32) -> i32
-    requires { ⌜ natAbs numerator + 8 < 2 ^ 31 ⌝ }
-    ensures { λ r. ⌜ r ≡ round numerator 16 ⌝ }
-{
-    (numerator + 8) >> 4
 }

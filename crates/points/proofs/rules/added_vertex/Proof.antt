@@ -3,9 +3,10 @@ use Prim.Native.Nat.{_*_, _≤_}
 use mathlib.Core.Path.{sym, _∙_}
 use native.Mathlib.Omega.{arith}
 use lib.IntN.{pos, natAbs, _+ℤ_, _*ℤ_}
-use mir.Syntax.{w32}
+use lib.Signed.{ltZ-yes}
+use mir.Syntax.{w32, w64}
 use mir.Val.{SFits}
-use mir.Facts.{toZ-ofZ}
+use mir.Facts.{toZ-ofZ, sfits-widen}
 use Rattle.laws.proofs.Integers.{natAbs-add, natAbs-mul, small-fits, back-of}
 use Rattle.points.specs.Operations.{most-coordinate}
 use Rattle.points.proofs.Numerators.{V3-six}
@@ -22,20 +23,26 @@ module _ (s : tie.Start) where
   fits : SFits w32 (pos 10 *ℤ s .args .vertex +ℤ s .args .sum)
   fits = small-fits w32 _ (omega (arith, small))
 
-mul-sixteenth : tie.Need-mul-sixteenth
-mul-sixteenth s = simp (toZ-ofZ (s .fits .vertex)) (ten-fits s)
+  wide : SFits w64 (pos 10 *ℤ s .args .vertex +ℤ s .args .sum)
+  wide = sfits-widen tt fits
 
-add-sixteenth : tie.Need-add-sixteenth
-add-sixteenth s = simp (toZ-ofZ (s .fits .vertex), toZ-ofZ (s .fits .sum), toZ-ofZ (ten-fits s)) (fits s)
+mul-numerator : tie.Need-mul-numerator
+mul-numerator s = simp (toZ-ofZ (s .fits .vertex)) (ten-fits s)
 
-sixteenth-requires : tie.Need-sixteenth-requires
-sixteenth-requires s κs = simp (toZ-ofZ (s .fits .vertex), toZ-ofZ (s .fits .sum), toZ-ofZ (ten-fits s), toZ-ofZ (fits s)) (omega (arith, small s))
+add-numerator : tie.Need-add-numerator
+add-numerator s = simp (toZ-ofZ (s .fits .vertex), toZ-ofZ (s .fits .sum), toZ-ofZ (ten-fits s)) (fits s)
+
+cast-numerator : tie.Need-cast-numerator
+cast-numerator s = simp (toZ-ofZ (s .fits .vertex), toZ-ofZ (s .fits .sum), toZ-ofZ (ten-fits s), toZ-ofZ (fits s)) (wide s)
+
+rounded-requires : tie.Need-rounded-requires
+rounded-requires s κs = simp (toZ-ofZ (s .fits .vertex), toZ-ofZ (s .fits .sum), toZ-ofZ (ten-fits s), toZ-ofZ (fits s), toZ-ofZ (wide s)) (ltZ-yes tt, omega arith, omega (arith, small s))
 
 returns : tie.Need-returns
 returns c =
     let s = c .before in
-    let e = simp (toZ-ofZ (s .fits .vertex), toZ-ofZ (s .fits .sum), toZ-ofZ (ten-fits s), toZ-ofZ (fits s)) at (c .sixteenth .ensures) in
-    simp (back-of w32 (c .sixteenth .result) (c .sixteenth .ok)) (e ∙ sym (V3-six (s .args .vertex) (s .args .sum)))
+    let e = simp (toZ-ofZ (s .fits .vertex), toZ-ofZ (s .fits .sum), toZ-ofZ (ten-fits s), toZ-ofZ (fits s), toZ-ofZ (wide s)) at (c .rounded .ensures) in
+    simp (back-of w32 (c .rounded .result) (c .rounded .ok)) (e ∙ sym (V3-six (s .args .vertex) (s .args .sum)))
 
 pub added-vertex-spec : {M : Type 1} → statement M
-added-vertex-spec = tie.close (tie.spec mul-sixteenth add-sixteenth sixteenth-requires returns)
+added-vertex-spec = tie.close (tie.spec mul-numerator add-numerator cast-numerator rounded-requires returns)

@@ -4,10 +4,10 @@ use mathlib.Core.Path.{_≡_, _∙_}
 use mathlib.Core.Bool.{true, false}
 use native.Mathlib.Omega.{arith}
 use lib.IntN.{ℤ, pos, natAbs, _+ℤ_, _-ℤ_, _*ℤ_}
-use lib.Signed.{leZ}
-use mir.Syntax.{w32}
+use lib.Signed.{leZ, ltZ-yes}
+use mir.Syntax.{w32, w64}
 use mir.Val.{SFits}
-use mir.Facts.{toZ-ofZ}
+use mir.Facts.{toZ-ofZ, sfits-widen}
 use Rattle.laws.proofs.Integers.{natAbs-add, natAbs-mul, small-fits, back-of}
 use Rattle.points.specs.Operations.{most-coordinate}
 use Rattle.points.specs.Passes.{mark, met}
@@ -50,6 +50,9 @@ module _ (c : tie.Else1) where
   fits : SFits w32 (sum +ℤ a (c .before))
   fits = small-fits w32 _ (omega (arith, small))
 
+  wide : SFits w64 (sum +ℤ a (c .before))
+  wide = sfits-widen tt fits
+
 mul-result : tie.Need-mul-result
 mul-result c = let s = c .before in simp (toZ-ofZ (s .fits .vertex)) (six-fits s)
 
@@ -67,24 +70,27 @@ returns c =
     rw first
     (simp (toZ-ofZ (s .fits .vertex), toZ-ofZ (s .fits .neighbour), toZ-ofZ (six-fits s), toZ-ofZ (sum-fits s), toZ-ofZ (marked-fits s)))
 
-sub-eighth : tie.Need-sub-eighth
-sub-eighth c = simp (toZ-ofZ (c .before .fits .now)) (unmarked-fits c)
+sub-numerator : tie.Need-sub-numerator
+sub-numerator c = simp (toZ-ofZ (c .before .fits .now)) (unmarked-fits c)
 
-add-eighth : tie.Need-add-eighth
-add-eighth c = simp (toZ-ofZ (c .before .fits .now), toZ-ofZ (c .before .fits .neighbour), toZ-ofZ (unmarked-fits c)) (fits c)
+add-numerator : tie.Need-add-numerator
+add-numerator c = simp (toZ-ofZ (c .before .fits .now), toZ-ofZ (c .before .fits .neighbour), toZ-ofZ (unmarked-fits c)) (fits c)
 
-eighth-requires : tie.Need-eighth-requires
-eighth-requires c κs =
-    simp (toZ-ofZ (c .before .fits .now), toZ-ofZ (c .before .fits .neighbour), toZ-ofZ (unmarked-fits c), toZ-ofZ (fits c))
-    (omega (arith, small c))
+cast-numerator : tie.Need-cast-numerator
+cast-numerator c = simp (toZ-ofZ (c .before .fits .now), toZ-ofZ (c .before .fits .neighbour), toZ-ofZ (unmarked-fits c), toZ-ofZ (fits c)) (wide c)
+
+rounded-requires : tie.Need-rounded-requires
+rounded-requires c κs =
+    simp (toZ-ofZ (c .before .fits .now), toZ-ofZ (c .before .fits .neighbour), toZ-ofZ (unmarked-fits c), toZ-ofZ (fits c), toZ-ofZ (wide c))
+    (ltZ-yes tt, omega arith, omega (arith, small c))
 
 returns-2 : tie.Need-returns-2
 unfolding met
 returns-2 c =
     let b = c .before in
     let s = b .before in
-    let e = simp (toZ-ofZ (s .fits .now), toZ-ofZ (s .fits .neighbour), toZ-ofZ (unmarked-fits b), toZ-ofZ (fits b)) at (c .eighth .ensures) in
-    rw (second b) (back-of w32 (c .eighth .result) (c .eighth .ok) ∙ e)
+    let e = simp (toZ-ofZ (s .fits .now), toZ-ofZ (s .fits .neighbour), toZ-ofZ (unmarked-fits b), toZ-ofZ (fits b), toZ-ofZ (wide b)) at (c .rounded .ensures) in
+    rw (second b) (back-of w32 (c .rounded .result) (c .rounded .ok) ∙ e)
 
 pub border-vertex-spec : {M : Type 1} → statement M
 border-vertex-spec =
@@ -94,7 +100,8 @@ border-vertex-spec =
     add-result
     add-result-2
     returns
-    sub-eighth
-    add-eighth
-    eighth-requires
+    sub-numerator
+    add-numerator
+    cast-numerator
+    rounded-requires
     returns-2)
