@@ -23,7 +23,7 @@ use Rattle.connectivity.specs.Tally.{Tallied}
 use Rattle.points.specs.NextPoints.{coordinate, total, corners, far, spokeEnds, creaseEnds}
 use Rattle.points.specs.Relied.{borderLeaves, borderEnds}
 
-total-append : (xs ys : List ℤ) → total (xs ++ ys) ≡ total xs +ℤ total ys
+pub total-append : (xs ys : List ℤ) → total (xs ++ ys) ≡ total xs +ℤ total ys
 total-append [] ys = sym (+ℤ-idl _)
 total-append (x ∷ xs) ys = ap (λ z. x +ℤ z) (total-append xs ys) ∙ sym (+ℤ-assoc x (total xs) (total ys))
 
@@ -43,7 +43,7 @@ module _ (f : ℕ → ℤ) (p : ℕ → Bool) where
       by false = refl
 
   -- of numbers of at most m
-  scan-at-most : (m : ℕ) → ((h : ℕ) → natAbs (f h) ≤ m) → (n : ℕ) → natAbs (scan f p n) ≤ m * count n p
+  pub scan-at-most : (m : ℕ) → ((h : ℕ) → natAbs (f h) ≤ m) → (n : ℕ) → natAbs (scan f p n) ≤ m * count n p
   scan-at-most m small zero = omega arith
   scan-at-most m small (suc n) = rw (scan-more n) (by (p n) (scan-at-most m small n))
     where

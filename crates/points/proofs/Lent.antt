@@ -15,10 +15,10 @@ use Rattle.connectivity.specs.Tables.{Tables}
 use Rattle.points.specs.Levels.{withNext, Ready}
 
 module _ (t : HalfedgeTable) (c : Tables) (at : ℕ) (points : List ℤ) where
-  pub ready-part : {own : List ℕ} → Ready own t c at points → Ready own t c 0 (midOf at (length points - at) points)
+  pub ready-part : {own : List ℕ} {before : ℕ} → Ready own before t c at points → Ready own before t c 0 (midOf at (length points - at) points)
   ready-part ready =
       rw (rest-whole points at)
-      (record { relied = ready .relied; known = ready .known; short = ready .short; in-range = ready .in-range; room = rw (length-drop at points) (omega (arith, ready .room)) })
+      (record { relied = ready .relied; known = ready .known; fourfold = ready .fourfold; short = ready .short; in-range = ready .in-range; room = rw (length-drop at points) (omega (arith, ready .room)) })
 
   pub part-back : putMid at (length points - at) points (withNext t c 0 (midOf at (length points - at) points)) ≡ withNext t c at points
   unfolding withNext

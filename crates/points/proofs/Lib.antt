@@ -4,6 +4,8 @@ pub mod Only
 pub mod Range
 pub mod Added
 pub mod Gathered
+pub mod Fours
+pub mod FourSpokes
 pub mod Cleared
 pub mod Settled
 pub mod Meeting

@@ -7,11 +7,13 @@ use mathlib.Core.List.{List, _++_, map}
 use native.Mathlib.Decide.{ℕ-discrete, decLt}
 use native.Mathlib.Nat.{le-refl, zero-add}
 use native.Mathlib.Omega.{arith}
-use lib.IntN.{ℤ, pos, natAbs}
+use lib.Dec.{eqb}
+use lib.IntN.{ℤ, pos, natAbs, _+ℤ_, +ℤ-idl}
 use lib.ListN.{length, take, drop}
-use borrow.Author.Tests.{eq-eqb, ne-eqb, lt-ltb, le-ltb}
+use borrow.Author.Tests.{eq-eqb, ne-eqb, lt-ltb, le-ltb, eqb-false}
 use Rattle.laws.specs.Below.{count}
 use Rattle.laws.specs.Steps.{steps}
+use Rattle.laws.proofs.Cases.{cond-keeps}
 use Rattle.laws.proofs.Middles.{splice-ext}
 use Rattle.laws.proofs.Tabulate.{length-tabulate, getD-tabulate}
 use Rattle.halfedges.specs.declared.table.HalfedgeTable.{HalfedgeTable}
@@ -19,27 +21,23 @@ use Rattle.connectivity.specs.Tables.{Tables}
 use Rattle.points.specs.PointRules.{V2, V3}
 use Rattle.points.specs.NextPoints.{coordinate, total, spokeEnds, creaseEnds, vertexPoint, newPoint, nextPoints}
 use Rattle.points.specs.Operations.{most-coordinate}
-use Rattle.points.specs.Relied.{knownCorners, Cornered, borderLeaves, borderEnds, Relied}
-use Rattle.points.specs.Passes.{value, Laid, clearCell, Cleared, spoke, Settles, settle, SettlesAt, Edged, Started, putEdge}
+use Rattle.points.specs.Relied.{knownCorners, Cornered, Fourfold, borderLeaves, borderEnds, Relied}
+use Rattle.points.specs.Passes.{value, Laid, clearCell, Cleared, gathered, Settles, settle, SettlesAt, Edged, Started, putEdge}
 use Rattle.points.specs.Levels.{Ready, withNext}
 use Rattle.points.proofs.Numerators.{V3-at-most}
-use Rattle.points.proofs.Ends.{spokes-are, spokes-at-most, corners-counted, creaseSum, creases-are, creases-counted}
+use Rattle.points.proofs.Ends.{spokeSum, spokes-are, spokes-at-most, corners-counted, creaseSum, creases-are, creases-counted}
 use Rattle.points.proofs.Range.{any-in-range}
-use Rattle.points.proofs.Only.{Only, only-on, only-wider, only-take}
-use Rattle.points.proofs.Added.{Holds, holds-own, holds-on}
+use Rattle.points.proofs.Only.{Only, only-on, only-wider}
+use Rattle.points.proofs.Added.{Holds, holds-own, holds-on, laid-on}
 use Rattle.points.proofs.Cleared.{cleared-only, cleared-all}
 use Rattle.points.proofs.Gathered.{gathered-only, sum-is}
+use Rattle.points.proofs.FourSpokes.{fours-only, fours-sum}
 use Rattle.points.proofs.Settled.{settled-only, settled-is}
 use Rattle.points.proofs.Meeting.{stage}
 use Rattle.points.proofs.Written.{written-only, edge-written, started-before}
 use Rattle.points.proofs.Joined.{joined-is}
 
--- a level stays laid where the passes change only what comes after it
-laid-on : {n to : ℕ} {l m : List ℤ} → Laid n l → Only (3 * n) to l m → Laid n m
-laid-on {n} laid only =
-    record { room = rw (only .long) (laid .room); in-range = rw (only-take (3 * n) (le-refl _) (omega (arith, laid .room)) only) (laid .in-range) }
-
-module _ (own : List ℕ) (t : HalfedgeTable) (c : Tables) (l : List ℤ) (ready : Ready own t c 0 l) where
+module _ (own : List ℕ) (before : ℕ) (t : HalfedgeTable) (c : Tables) (l : List ℤ) (ready : Ready own before t c 0 l) where
   abbrev n : ℕ
   n = t .vertices
 
@@ -57,7 +55,7 @@ module _ (own : List ℕ) (t : HalfedgeTable) (c : Tables) (l : List ℤ) (ready
   after-clear = steps (3 * n) (clearCell n) l
 
   abbrev pub after-gather : List ℤ
-  after-gather = steps H (spoke (c .vert) n) after-clear
+  after-gather = gathered (c .vert) n before after-clear
 
   abbrev pub after-settle : List ℤ
   after-settle = steps (3 * n) (settle own n) after-gather
@@ -76,7 +74,12 @@ module _ (own : List ℕ) (t : HalfedgeTable) (c : Tables) (l : List ℤ) (ready
   clear-laid = laid-on laid clear-only
 
   gather-only : Only (3 * n) (6 * n) l after-gather
-  gather-only = only-on clear-only (gathered-only (c .vert) n (relied .cornered) after-clear (clear-laid .room) H (le-refl _))
+  unfolding gathered
+  gather-only =
+      only-on clear-only
+      (cond-keeps (Only (3 * n) (6 * n) after-clear) (eqb before 0)
+      (λ _. gathered-only (c .vert) n (relied .cornered) after-clear (clear-laid .room) H (le-refl _))
+      (λ e. fours-only (c .vert) n (relied .cornered) before (ready .fourfold (eqb-false before 0 e)) after-clear (before / 3) (le-refl _)))
 
   gather-laid : Laid n after-gather
   gather-laid = laid-on laid gather-only
@@ -90,8 +93,8 @@ module _ (own : List ℕ) (t : HalfedgeTable) (c : Tables) (l : List ℤ) (ready
   settle-laid = laid-on laid settle-only
 
   -- what the second pass asks
-  pub gathers : Cornered (c .vert) n × Laid n after-clear × Cleared n after-clear
-  gathers = (relied .cornered, clear-laid, cleared-all n l (laid .room))
+  pub gathers : Cornered (c .vert) n × (before ≢ 0 → Fourfold before (c .vert)) × Laid n after-clear × Cleared n after-clear
+  gathers = (relied .cornered, ready .fourfold, clear-laid, cleared-all n l (laid .room))
 
   held : {to : ℕ} {m : List ℤ} → Only (3 * n) to l m → Holds n points m
   held only = holds-on (le-refl _) (holds-own n l) only
@@ -111,7 +114,15 @@ module _ (own : List ℕ) (t : HalfedgeTable) (c : Tables) (l : List ℤ) (ready
         (omega (arith, spokes-at-most (c .vert) v points k most-coordinate (small k) H, corners-counted (c .vert) v, most))
 
     spoke-sum : value after-gather (3 * n + 3 * v + k) ≡ spokes
-    spoke-sum = sum-is (c .vert) n (relied .cornered) after-clear (clear-laid .room) points (held clear-only) (ready .in-range) (gathers .2) v k lv lk H (le-refl _) ∙ sym (spokes-are (c .vert) v points k)
+    unfolding gathered
+    spoke-sum =
+        let e : 3 * n + (3 * v + k) ≡ 3 * n + 3 * v + k = omega arith in
+        cond-keeps (λ q. value q (3 * n + 3 * v + k) ≡ spokeSum (c .vert) points k v H) (eqb before 0)
+        (λ _. sum-is (c .vert) n (relied .cornered) after-clear (clear-laid .room) points (held clear-only) (ready .in-range) (gathers .3) v k lv lk H (le-refl _))
+        (λ z. fours-sum (c .vert) n (relied .cornered) before (ready .fourfold (eqb-false before 0 z)) after-clear (clear-laid .room) points (held clear-only) v k lv lk
+        ∙ ap (λ z. z +ℤ spokeSum (c .vert) points k v H) (rw e at (gathers .3 (3 * v + k) (omega arith)))
+        ∙ +ℤ-idl _)
+        ∙ sym (spokes-are (c .vert) v points k)
 
     place-now : coordinate after-gather k v ≡ coordinate points k v
     place-now = held gather-only .same v k lv lk

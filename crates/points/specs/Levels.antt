@@ -1,6 +1,7 @@
 -- The points in the lent table: the next level's come straight after a level's, and so all levels stand end to end.
 use Prim.Native.Nat.{ℕ, suc, _+_, _*_, _≤_, _<_}
 use mathlib.Core.Path.{_≡_}
+use mathlib.Core.Logic.{_≢_}
 use mathlib.Core.List.{List, _++_}
 use lib.IntN.{ℤ}
 use lib.ListN.{length, take, drop}
@@ -12,7 +13,7 @@ use Rattle.connectivity.specs.Tables.{Tables, tables}
 use Rattle.connectivity.specs.NextLevel.{level}
 use Rattle.connectivity.specs.Operations.{levelsEndToEnd}
 use Rattle.points.specs.NextPoints.{corners, nextPoints, levelPoints}
-use Rattle.points.specs.Relied.{Relied, Known, InRange}
+use Rattle.points.specs.Relied.{Relied, Known, Fourfold, InRange}
 
 -- the points of a level with counts t that start at cell `at`
 abbrev pub pointsAt : HalfedgeTable → ℕ → List ℤ → List ℤ
@@ -27,9 +28,10 @@ unfoldable pub withNext : HalfedgeTable → Tables → ℕ → List ℤ → List
 withNext t c at points = take (at + 3 * t .vertices) points ++ (nextPoints t c (pointsAt t at points) ++ drop (nextEnd t at) points)
 
 -- what that takes: the tables' promise, known corners, points in range and room; and no halfedge's number is the marker
-pub record Ready (own : List ℕ) (t : HalfedgeTable) (c : Tables) (at : ℕ) (points : List ℤ) : Type 0 where
+pub record Ready (own : List ℕ) (before : ℕ) (t : HalfedgeTable) (c : Tables) (at : ℕ) (points : List ℤ) : Type 0 where
   pub relied : Relied t c
   pub known : Known own (c .twin) (c .vert) (t .vertices)
+  pub fourfold : before ≢ 0 → Fourfold before (c .vert)
   pub short : t .halfedges ≤ marker
   pub in-range : InRange (pointsAt t at points)
   pub room : nextEnd t at ≤ length points

@@ -12,6 +12,7 @@ use lib.Signed.{leZ}
 use lib.ListN.{length, getD, take, set}
 use Rattle.rounding.specs.Rounding.{round}
 use Rattle.points.specs.declared.edges.Triangle.{Triangle}
+use Rattle.laws.specs.Steps.{steps}
 use Rattle.halfedges.specs.Cage.{PREV, marker, cell, border}
 use Rattle.halfedges.specs.Corners.{corners}
 use Rattle.points.specs.PointRules.{E1, V3}
@@ -77,6 +78,34 @@ pub record AddsTriangle (n : ℕ) (corners : List ℕ) (l : List ℤ) : Type 0 w
 -- 2: the spoke of halfedge h
 unfoldable pub spoke : List ℕ → ℕ → ℕ → List ℤ → List ℤ
 spoke vert n h l = addPoint n (cell vert h) (far vert h) l
+
+-- a point is added to the sums of vertex v; three points are
+unfoldable pub addTo : ℕ → ℕ → List ℤ → List ℤ → List ℤ
+addTo n v p l = put (3 * n + 3 * v) (λ k. value l (3 * n + 3 * v + k) +ℤ value p k) l
+
+unfoldable pub addThreeTo : ℕ → ℕ → List ℤ → List ℤ → List ℤ → List ℤ → List ℤ
+addThreeTo n v p q r l = put (3 * n + 3 * v) (λ k. value l (3 * n + 3 * v + k) +ℤ (value p k +ℤ value q k +ℤ value r k)) l
+
+-- 2, above the cage: the twelve spokes of the four triangles of one with corners u, v, w, and on the edges after them a, b, c
+unfoldable pub addFour : ℕ → ℕ → ℕ → ℕ → ℕ → ℕ → ℕ → List ℤ → List ℤ
+addFour n u v w a b c l =
+    addThreeTo n b (pointOf l w) (pointOf l c) (pointOf l a)
+    (addThreeTo n a (pointOf l v) (pointOf l b) (pointOf l c)
+    (addThreeTo n c (pointOf l u) (pointOf l a) (pointOf l b) (addTo n w (pointOf l c) (addTo n v (pointOf l b) (addTo n u (pointOf l a) l)))))
+
+-- there is room, and no sum wraps: they are those of at most 1,024 coordinates
+pub record AddsFour (n u v w a b c : ℕ) (l : List ℤ) : Type 0 where
+  pub below : (u < n) × (v < n) × (w < n) × (a < n) × (b < n) × (c < n)
+  pub laid : Laid n l
+  pub sums : (x k : ℕ) → x < n → k < 3 → natAbs (value l (3 * n + 3 * x + k)) ≤ most-coordinate * most-corners
+
+-- of triangle g of the level before
+unfoldable pub fourSpokes : List ℕ → ℕ → ℕ → List ℤ → List ℤ
+fourSpokes vert n g l = addFour n (cell vert (9 * g)) (cell vert (9 * g + 3)) (cell vert (9 * g + 6)) (cell vert (9 * g + 1)) (cell vert (9 * g + 4)) (cell vert (9 * g + 7)) l
+
+-- all spokes of a level, where the one before had so many halfedges; none came before the cage
+unfoldable pub gathered : List ℕ → ℕ → ℕ → List ℤ → List ℤ
+gathered vert n before l = cond (eqb before 0) (steps (length vert) (spoke vert n) l) (steps (before / 3) (fourSpokes vert n) l)
 
 -- 3: cell i of the sums is made the new place by V.3, also where V.2 is to come
 unfoldable pub settle : List ℕ → ℕ → ℕ → List ℤ → List ℤ

@@ -1,6 +1,6 @@
 -- What the point rules rely on of a level's tables. It follows from rules 1 and 3 to 7, and from the limits; that corners are
 -- known, from demand 3.
-use Prim.Native.Nat.{ℕ, _%_, _≤_, _<_}
+use Prim.Native.Nat.{ℕ, _+_, _*_, _%_, _≤_, _<_}
 use mathlib.Core.Path.{_≡_}
 use mathlib.Core.Logic.{_≢_, _⊎_}
 use mathlib.Core.Bool.{Bool, _&&_}
@@ -10,7 +10,7 @@ use lib.IntN.{ℤ, pos, natAbs}
 use lib.ListN.{length, getD}
 use Rattle.halfedges.specs.declared.table.HalfedgeTable.{HalfedgeTable}
 use Rattle.laws.specs.Below.{count}
-use Rattle.halfedges.specs.Cage.{marker, cell, border}
+use Rattle.halfedges.specs.Cage.{PREV, marker, cell, border}
 use Rattle.connectivity.specs.Tables.{Tables, leaves}
 use Rattle.points.specs.NextPoints.{corners, far}
 use Rattle.points.specs.Operations.{most-coordinate}
@@ -70,3 +70,12 @@ pub record Relied (t : HalfedgeTable) (c : Tables) : Type 0 where
 -- rule 8: every coordinate is in range
 abbrev pub InRange : List ℤ → Type 0
 InRange points = (i : ℕ) → i < length points → natAbs (getD points i (pos 0)) ≤ most-coordinate
+
+-- of VERT above the cage, where the level before had so many halfedges. Each of its triangles became four: three at its corners,
+-- which stand together, and past all of those the middle one, whose halfedges run back along the second ones of the three
+pub record Fourfold (before : ℕ) (vert : List ℕ) : Type 0 where
+  pub long : length vert ≡ 4 * before
+  pub whole : before % 3 ≡ 0
+  pub corner : (h : ℕ) → h < before → cell vert (3 * h + 2) ≡ cell vert (3 * PREV h + 1)
+  pub from : (h : ℕ) → h < before → cell vert (3 * before + h) ≡ cell vert (3 * h + 2)
+  pub end : (h : ℕ) → h < before → far vert (3 * before + h) ≡ cell vert (3 * h + 1)

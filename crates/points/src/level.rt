@@ -3,26 +3,27 @@ ghost use mathlib.Core.Path.{_≡_};
 ghost use Rattle.connectivity.specs.Tables.{tables};
 ghost use Rattle.points.specs.Levels.{Ready, withNext};
 use crate::edges::write_edges;
-use crate::spokes::add_spokes;
 use crate::spokes::clear_sums;
+use crate::spokes::gather;
 use crate::vertices::settle_vertices;
 use halfedges::table::HalfedgeTable;
 
 // The next level's points, in a table that starts with the level's own.
 fn next_points(
     own: &[u32],
+    before: usize,
     table: HalfedgeTable,
     twin: &[u32],
     vert: &[u32],
     edge: &[u32],
     points: &mut [i32],
 )
-    requires { ⌜ Ready (now own) table (tables (now twin) (now vert) (now edge)) 0 (now points) ⌝ }
+    requires { ⌜ Ready (now own) before table (tables (now twin) (now vert) (now edge)) 0 (now points) ⌝ }
     ensures { λ _. ⌜ now (points .exit) ≡ withNext table (tables (now (twin .entry)) (now (vert .entry)) (now (edge .entry))) 0 (now (points .entry)) ⌝ }
 {
     let vertices = table.vertices;
     clear_sums(&mut *points, vertices);
-    add_spokes(vert, &mut *points, vertices);
+    gather(vert, &mut *points, vertices, before);
     settle_vertices(own, &mut *points, vertices);
     write_edges(twin, vert, edge, &mut *points, vertices);
 }
@@ -30,6 +31,7 @@ fn next_points(
 // The next level's points, in a table where the level's own start at a cell.
 pub fn next_level(
     own: &[u32],
+    before: usize,
     table: HalfedgeTable,
     twin: &[u32],
     vert: &[u32],
@@ -37,8 +39,8 @@ pub fn next_level(
     points: &mut [i32],
     at: usize,
 )
-    requires { ⌜ Ready (now own) table (tables (now twin) (now vert) (now edge)) at (now points) ⌝ }
+    requires { ⌜ Ready (now own) before table (tables (now twin) (now vert) (now edge)) at (now points) ⌝ }
     ensures { λ _. ⌜ now (points .exit) ≡ withNext table (tables (now (twin .entry)) (now (vert .entry)) (now (edge .entry))) at (now (points .entry)) ⌝ }
 {
-    next_points(own, table, twin, vert, edge, &mut points[at..]);
+    next_points(own, before, table, twin, vert, edge, &mut points[at..]);
 }

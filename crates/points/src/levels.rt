@@ -11,6 +11,7 @@ use halfedges::table::HalfedgeTable;
 // The next level's points, from a level whose halfedges start at one cell of the three tables and whose points at another.
 fn refine_level(
     own: &[u32],
+    before: usize,
     table: HalfedgeTable,
     twin: &[u32],
     vert: &[u32],
@@ -19,12 +20,13 @@ fn refine_level(
     start: usize,
     at: usize,
 )
-    requires { ⌜ (start + table .halfedges ≤ length (now twin)) × (start + table .halfedges ≤ length (now vert)) × (start + table .halfedges ≤ length (now edge)) × (Ready (now own) table (tablesAt table start (tables (now twin) (now vert) (now edge))) at (now points)) ⌝ }
+    requires { ⌜ (start + table .halfedges ≤ length (now twin)) × (start + table .halfedges ≤ length (now vert)) × (start + table .halfedges ≤ length (now edge)) × (Ready (now own) before table (tablesAt table start (tables (now twin) (now vert) (now edge))) at (now points)) ⌝ }
     ensures { λ _. ⌜ now (points .exit) ≡ withNext table (tablesAt table start (tables (now (twin .entry)) (now (vert .entry)) (now (edge .entry)))) at (now (points .entry)) ⌝ }
 {
     let end = start + table.halfedges;
     next_level(
         own,
+        before,
         table,
         &twin[start..end],
         &vert[start..end],
@@ -49,13 +51,25 @@ fn refine_levels(
     ensures { λ _. ⌜ now (points .exit) ≡ withLevels table depth (tables (now (twin .entry)) (now (vert .entry)) (now (edge .entry))) (now (points .entry)) ⌝ }
 {
     let mut level = 0;
+    let mut before = 0;
     let mut counts = table;
     let mut start = 0;
     let mut at = 0;
     while level < depth {
-        refine_level(own, counts, twin, vert, edge, &mut *points, start, at);
+        refine_level(
+            own,
+            before,
+            counts,
+            twin,
+            vert,
+            edge,
+            &mut *points,
+            start,
+            at,
+        );
         start = start + counts.halfedges;
         at = at + 3 * counts.vertices;
+        before = counts.halfedges;
         counts = counts.finer();
         level += 1;
     }

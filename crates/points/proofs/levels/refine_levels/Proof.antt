@@ -13,10 +13,10 @@ use Rattle.points.proofs.levels.refine_levels.Statement.{statement}
 use Rattle.points.proofs.levels.refine_levels.Tie as tie
 
 abbrev Inv-loop : tie.InvT-loop
-Inv-loop own depth twin vert edge points₀ level₀ counts₀ start₀ at₀ points level counts start at = (level ≤ depth) × (length points ≡ length points₀) × Stands counts₀ (tables twin vert edge) points₀ level counts start at points
+Inv-loop own depth twin vert edge points₀ level₀ before₀ counts₀ start₀ at₀ points level before counts start at = (level ≤ depth) × (length points ≡ length points₀) × Stands counts₀ (tables twin vert edge) points₀ level before counts start at points
 
 abbrev μ-loop : tie.MeasureT-loop
-μ-loop own depth twin vert edge points₀ level₀ counts₀ start₀ at₀ points level counts start at = depth - level
+μ-loop own depth twin vert edge points₀ level₀ before₀ counts₀ start₀ at₀ points level before counts start at = depth - level
 
 -- no count in the loop is above what level 6 can have, and no start is past its table's end
 small : (b : tie.At-loop Inv-loop μ-loop) → b .loop .level < b .before .before .before .before .before .args .depth → AtMost (4 ^ most-depth * most-halfedges) (b .loop .counts) × (b .loop .at + 3 * b .loop .counts .vertices ≤ length (b .before .before .before .before .before .args .points .now)) × (b .loop .start + b .loop .counts .halfedges ≤ length (b .before .before .before .before .before .args .twin .now))
