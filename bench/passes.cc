@@ -1,5 +1,5 @@
-// The library's own way, by hand: the points in four passes. The sums are cleared; each triangle's spokes are added to them; they
-// become places; and a last pass makes the edges' points and puts the border's vertices where they belong.
+// The library's own four passes, by hand, the spokes triangle by triangle. The sums are cleared; each triangle's spokes are added to
+// them; they become places; and a last pass makes the edges' points and puts the border's vertices where they belong.
 #include "by_hand.h"
 #include "engines.h"
 

@@ -3,18 +3,21 @@
 use Prim.Native.Nat.{ℕ, _≤_, _<_}
 use mathlib.Core.Path.{_≡_, refl, sym, _∙_}
 use mathlib.Core.Logic.{_≢_, _⊎_, inl, inr}
-use mathlib.Core.Bool.{true}
+use mathlib.Core.Bool.{Bool, true, _||_}
 use mathlib.Core.List.{List}
 use native.Mathlib.Decide.{ℕ-discrete}
 use native.Mathlib.Omega.{arith}
-use lib.Dec.{eqb}
+use lib.Dec.{eqb, ltb}
 use lib.ListN.{length}
 use borrow.Author.Tests.{eq-eqb, ne-eqb, lt-ltb, eqb-true, ltb-true}
 use Rattle.laws.proofs.Lowest.{lowest-at-most, lowest-passes}
-use Rattle.halfedges.specs.Cage.{marker, cell}
+use Rattle.halfedges.specs.Cage.{marker, cell, border}
 use Rattle.points.specs.NextPoints.{carrier}
 use Rattle.points.specs.Relied.{Carried}
-use Rattle.points.specs.Passes.{lowest-carrier}
+
+-- h has no twin or a twin with a higher number: it is the lowest that carries its edge
+abbrev pub lowest-carrier : List ℕ → ℕ → Bool
+lowest-carrier twin h = border twin h || ltb h (cell twin h)
 
 module _ (twin edge : List ℕ) (e : ℕ) (carried : Carried twin edge e) where
   -- a halfedge that carries i is no lower than i's carrier

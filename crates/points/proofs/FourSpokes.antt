@@ -14,7 +14,7 @@ use Rattle.laws.specs.Steps.{steps}
 use Rattle.laws.proofs.Integers.{natAbs-add, add-swap}
 use Rattle.laws.proofs.Select.{count-grows}
 use Rattle.laws.proofs.Sums.{sum-split}
-use Rattle.halfedges.specs.Cage.{NEXT, PREV, cell}
+use Rattle.halfedges.specs.Cage.{cell}
 use Rattle.halfedges.proofs.Triangle.{next-0, next-1, next-2, prev-0, prev-1, prev-2}
 use Rattle.connectivity.specs.Tables.{leaves}
 use Rattle.points.specs.NextPoints.{coordinate, total, far}

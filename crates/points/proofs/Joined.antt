@@ -1,9 +1,9 @@
 -- What the pass over the edges leaves in the vertices' cells: of each vertex the stage that its border neighbours so far have
 -- taken it to, `joined-is`. Assumes nothing.
 use Prim.Native.Nat.{ℕ, zero, suc, _+_, _*_, _≤_, _<_}
-use mathlib.Core.Path.{_≡_, refl, sym, ap, ap₂, _∙_}
+use mathlib.Core.Path.{_≡_, refl, ap, ap₂, _∙_}
 use mathlib.Core.Logic.{_≢_}
-use mathlib.Core.Bool.{Bool, true, false, cond, _&&_}
+use mathlib.Core.Bool.{Bool, true, false, cond}
 use mathlib.Core.List.{List}
 use native.Mathlib.Decide.{ℕ-discrete, decLt}
 use native.Mathlib.Nat.{add-zero}
@@ -16,7 +16,7 @@ use Rattle.laws.specs.Below.{count}
 use Rattle.laws.specs.Steps.{steps}
 use Rattle.laws.proofs.Integers.{natAbs-add, add-swap}
 use Rattle.laws.proofs.Select.{count-grows}
-use Rattle.halfedges.specs.Cage.{PREV, marker, cell, border}
+use Rattle.halfedges.specs.Cage.{PREV, marker, cell}
 use Rattle.connectivity.specs.Tables.{leaves}
 use Rattle.points.specs.PointRules.{E1}
 use Rattle.points.specs.NextPoints.{coordinate, far}

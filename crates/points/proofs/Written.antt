@@ -3,7 +3,7 @@
 use Prim.Native.Nat.{ℕ, zero, suc, _+_, _*_, _≤_, _<_}
 use mathlib.Core.Path.{_≡_, sym, ap, _∙_, subst}
 use mathlib.Core.Logic.{_≢_, _⊎_, inl, inr}
-use mathlib.Core.Bool.{cond, true, false}
+use mathlib.Core.Bool.{cond, true}
 use mathlib.Core.List.{List}
 use native.Mathlib.Decide.{ℕ-discrete, decLt}
 use native.Mathlib.Nat.{not-suc-le-zero}
@@ -19,13 +19,13 @@ use Rattle.points.specs.PointRules.{E1, E2}
 use Rattle.points.specs.NextPoints.{coordinate, far, edgePoint, carrier}
 use Rattle.points.specs.Operations.{most-coordinate}
 use Rattle.points.specs.Relied.{Carried, InRange}
-use Rattle.points.specs.Passes.{value, put, pointOf, started, finished, borderEdge, startEdge, finishEdge, meet, lowest-carrier, Edged, Started, putEdge}
+use Rattle.points.specs.Passes.{value, put, pointOf, started, finished, borderEdge, startEdge, finishEdge, Edged, Started, putEdge}
 use Rattle.points.proofs.Numerators.{started-at-most}
 use Rattle.points.proofs.Range.{any-in-range}
 use Rattle.points.proofs.Only.{Only, only-steps, put-only, put-hit}
-use Rattle.points.proofs.Added.{Holds, holds-on}
+use Rattle.points.proofs.Added.{Holds}
 use Rattle.points.proofs.Gathered.{far-below}
-use Rattle.points.proofs.Carriers.{carrier-carries, carrier-first, carrier-below, first-carrier, twin-twin}
+use Rattle.points.proofs.Carriers.{lowest-carrier, carrier-carries, carrier-first, carrier-below, first-carrier, twin-twin}
 use Rattle.points.proofs.Writes.{pointOf-is, meet-only, put-step-only, finish-put, border-put, start-put}
 
 -- meeting changes no edge's cells

@@ -13,7 +13,7 @@ use lib.ListN.{length, getD, take, set}
 use Rattle.rounding.specs.Rounding.{round}
 use Rattle.points.specs.declared.edges.Triangle.{Triangle}
 use Rattle.laws.specs.Steps.{steps}
-use Rattle.halfedges.specs.Cage.{PREV, marker, cell, border}
+use Rattle.halfedges.specs.Cage.{PREV, marker, cell}
 use Rattle.halfedges.specs.Corners.{corners}
 use Rattle.points.specs.PointRules.{E1, V3}
 use Rattle.points.specs.NextPoints.{coordinate, far}
@@ -234,7 +234,3 @@ pub record StartedTriangle (twin vert edge : List ℕ) (n : ℕ) (points : List 
   pub first : Started twin edge n (3 * t) l
   pub second : Started twin edge n (3 * t + 1) (putEdge twin vert edge n points (3 * t) l)
   pub third : Started twin edge n (3 * t + 2) (putEdge twin vert edge n points (3 * t + 1) (putEdge twin vert edge n points (3 * t) l))
-
--- h has no twin or a twin with a higher number: it is the lowest that carries its edge
-abbrev pub lowest-carrier : List ℕ → ℕ → Bool
-lowest-carrier twin h = border twin h || ltb h (cell twin h)

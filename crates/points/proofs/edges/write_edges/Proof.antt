@@ -1,15 +1,12 @@
 -- `write_edges` takes three steps of its definition a turn, of a triangle's halfedges; the level's points stay where they are.
-use Prim.Native.Nat.{ℕ, _+_, _-_, _*_, _≤_, _<_}
-use mathlib.Core.Path.{_≡_, refl, sym, ap, _∙_, subst}
-use mathlib.Core.List.{List}
-use native.Mathlib.Nat.{le-refl}
+use Prim.Native.Nat.{_+_, _-_, _*_, _≤_, _<_}
+use mathlib.Core.Path.{_≡_, refl, sym, subst}
 use native.Mathlib.Omega.{arith}
-use lib.IntN.{ℤ}
 use lib.ListN.{length}
 use borrow.Author.Needs.{needs}
 use Rattle.laws.specs.Steps.{steps}
-use Rattle.laws.proofs.Steps.{steps-none, steps-three-on, steps-end}
-use Rattle.points.specs.Passes.{Edged, putEdge, putTriangle, StartedTriangle}
+use Rattle.laws.proofs.Steps.{steps-none, steps-end}
+use Rattle.points.specs.Passes.{Edged, putEdge, StartedTriangle}
 use Rattle.points.proofs.Writes.{triangle-asks, triangle-same}
 use Rattle.points.proofs.edges.write_edges.Statement.{statement}
 use Rattle.points.proofs.edges.write_edges.Tie as tie

@@ -7,7 +7,7 @@ use mathlib.Core.List.{List}
 use lib.IntN.{ℤ}
 use Rattle.halfedges.specs.Cage.{marker, cell}
 use Rattle.points.specs.declared.edges.Triangle.{Triangle}
-use Rattle.points.specs.Passes.{AsksInner, innerEdge, stepFirst, stepSecond, stepThird, stepTriangle}
+use Rattle.points.specs.Passes.{AsksInner, stepFirst, stepSecond, stepThird, stepTriangle}
 use Rattle.points.proofs.Writes.{inner-way, none-among}
 use Rattle.points.proofs.edges.write_inner.Statement.{statement}
 use Rattle.points.proofs.edges.write_inner.Tie as tie

@@ -5,7 +5,6 @@ use mathlib.Core.List.{List}
 use native.Mathlib.Omega.{arith}
 use lib.IntN.{ℤ}
 use borrow.Author.Needs.{needs}
-use Rattle.points.specs.declared.edges.Triangle.{Triangle}
 use Rattle.points.specs.Passes.{triangleOf, stepTriangle, AsksTriangle, putTriangle}
 use Rattle.points.proofs.Writes.{triangle-is, triangle-asked, triangle-readable}
 use Rattle.points.proofs.edges.write_triangle.Statement.{statement}

@@ -1,12 +1,9 @@
 -- `refine_points` lists the corners of the cage's vertices by a tally of the cage's VERT.
 use Prim.Native.Nat.{_≤_}
-use mathlib.Core.Path.{sym, subst}
-use native.Mathlib.Omega.{arith}
+use mathlib.Core.Path.{sym}
 use lib.ListN.{length, take, getD-replicate}
 use lib.Seq.{length-take-le}
 use borrow.Author.Needs.{needs}
-use Rattle.halfedges.specs.Cage.{most-halfedges}
-use Rattle.connectivity.specs.Tally.{Tallied}
 use Rattle.points.proofs.Ends.{tally-lists}
 use Rattle.points.proofs.levels.refine_points.Statement.{statement}
 use Rattle.points.proofs.levels.refine_points.Tie as tie
