@@ -354,8 +354,8 @@ fn edges_above(edge: &mut [u32], twin: &[u32], at: usize, level: HalfedgeTable)
     }
 }
 
-// Writes the next level of the level that stands at an offset straight after it. A table at a time takes three quarters of
-// the time of all three together, since stores then go to fewer places at once. Only the cage stands at the start.
+// Writes the next level of the level that stands at an offset straight after it, a table at a time, so that stores go to few places
+// at once. Only the cage stands at the start.
 pub fn next_level(
     twin: &mut [u32],
     vert: &mut [u32],
