@@ -10,6 +10,8 @@ ghost use Rattle.points.specs.Operations.{most-coordinate, outOfRange, cageChec
 use connectivity::check;
 use connectivity::check::Checked;
 use halfedges::answer::Answer;
+use points::rules::LEAST_COORDINATE;
+use points::rules::MOST_COORDINATE;
 
 // The cage check, which has no depth.
 pub fn check_cage(twin: &[u32], vert: &[u32], edge: &[u32], points: &[i32]) -> Checked
@@ -42,7 +44,7 @@ pub fn check_for_depth(
     check_points(points)
 }
 
-// Rule 8.
+// Rule 8: every coordinate is in range.
 pub fn check_points(points: &[i32]) -> Answer
     ensures { λ r. ⌜ told r ≡ givenAt (length (now (points .entry))) (outOfRange (now (points .entry))) POINT ⌝ }
 {
@@ -56,11 +58,12 @@ pub fn check_points(points: &[i32]) -> Answer
     Answer::Done
 }
 
+// Whether a coordinate is below or above the range.
 fn out_of_range(coordinate: i32) -> bool
     ensures { λ r. ⌜ r ≡ ltb most-coordinate (natAbs coordinate) ⌝ }
 {
-    if coordinate < -1048576 {
+    if coordinate < LEAST_COORDINATE {
         return true;
     }
-    1048576 < coordinate
+    MOST_COORDINATE < coordinate
 }

@@ -29,7 +29,7 @@ asTwin n = cond (eqb n noTwin) marker n
 abbrev pub signed : ℕ → ℤ
 signed n = cond (ltb n 2147483648) (pos n) (negsuc (4294967295 - n))
 
--- where the field after this one has its head
+-- where the field after one whose head is at an offset has its own head
 abbrev pub past : ℕ → Head → ℕ
 past at h = at + 3 + h .size
 

@@ -75,14 +75,14 @@ module _ {t : HalfedgeTable} {at : ℕ} {twin : List ℕ} (s : Housed t at twin)
       let f : t .halfedges / 4 ≡ 3 * (t .halfedges / 3 - t .halfedges / 4) = omega (arith, s .whole, e) in
       (subst (λ m. m % 3 ≡ 0) (sym f) (mul-mod-right 3 (t .halfedges / 3 - t .halfedges / 4)), e)
 
-  -- of a corner triangle the one between is not
+  -- the second halfedge of a corner triangle is not above its twin
   pub across-below : (h : ℕ) → h % 3 ≡ 0 → h < 3 * (t .halfedges / 4) → false ≡ isAbove (cell twin (at + (h + 1))) (h + 1)
   across-below h z l =
       let e : h + 1 ≡ 3 * (h / 3) + 1 = omega arith in
       let v : cell twin (at + (h + 1)) ≡ 3 * (t .halfedges / 4) + h / 3 = rw e (d .across (h / 3) (omega arith)) in
       rw v (simp (ne-eqb (3 * (t .halfedges / 4) + h / 3) marker (λ m. omega (arith, m, s .small .halfedges)), le-ltb (3 * (t .halfedges / 4) + h / 3) (h + 1) (omega arith)))
 
-  -- and of a middle triangle all are
+  -- the three of a middle triangle are above theirs
   pub middle-above : (h : ℕ) → 3 * (t .halfedges / 4) ≤ h → h < t .halfedges → true ≡ isAbove (cell twin (at + h)) h
   middle-above h o l =
       let j = h - 3 * (t .halfedges / 4) in

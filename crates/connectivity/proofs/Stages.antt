@@ -18,7 +18,7 @@ use Rattle.halfedges.proofs.Growth.{levels-at-most}
 use Rattle.connectivity.specs.Tables.{Tables, tables}
 use Rattle.connectivity.specs.NextLevel.{next, level}
 use Rattle.connectivity.specs.Operations.{levelsEndToEnd}
-use Rattle.connectivity.specs.InPlace.{levelAt, tablesInFront, withNext, withNextLevel, Sound, Housed, CageOrDescended, Standing, Refinable}
+use Rattle.connectivity.specs.InPlace.{most-small, levelAt, tablesInFront, withNext, withNextLevel, Sound, Housed, CageOrDescended, Standing, Refinable}
 use Rattle.connectivity.proofs.Soundness.{sound-at}
 use Rattle.connectivity.proofs.Descent.{descended}
 
@@ -101,7 +101,7 @@ module _ (t : HalfedgeTable) (depth : ℕ) (x : Tables) (r : Refinable t depth x
     level-there = λ i. tables (last twins twins-long (x .twin) d i) (last verts verts-long (x .vert) d i) (last edges edges-long (x .edge) d i)
 
     module _ (l : d < depth) where
-      small-there : AtMost 4194304 (countsAt t d)
+      small-there : AtMost most-small (countsAt t d)
       small-there =
           let a = levels-at-most most-halfedges 5 t (r .small) d (omega (arith, r .shallow)) in
           record { halfedges = omega arith; edges = omega arith; vertices = omega arith }

@@ -14,7 +14,7 @@ use Rattle.laws.proofs.Parts.{length-part, part-at}
 use Rattle.halfedges.specs.Cage.{PREV, cell, above}
 use Rattle.halfedges.proofs.Triangle.{prev-first, prev-other}
 use Rattle.connectivity.specs.NextLevel.{newTwin, newEdge, newVert, nextTwins, nextEdges, nextVerts}
-use Rattle.connectivity.specs.InPlace.{trio, outerTwin, innerTwin, isAbove, firstHalf, secondHalf, joinTwins, splitTwins, splitVerts, splitEdges, setSplit, withSplitEdges, withNext, SmallEdges, Fits, Housed}
+use Rattle.connectivity.specs.InPlace.{most-small, trio, outerTwin, innerTwin, isAbove, firstHalf, secondHalf, joinTwins, splitTwins, splitVerts, splitEdges, setSplit, withSplitEdges, withNext, SmallEdges, Fits, Housed}
 use Rattle.connectivity.proofs.Rows.{at-corner, at-across, at-back, at-middle}
 use Rattle.connectivity.proofs.Fill.{Going, splitBy, going-start, going-on, going-before, going-done}
 
@@ -183,8 +183,8 @@ module _ {t : HalfedgeTable} {at : ℕ} {xs : List ℕ} (s : Housed t at xs) whe
   unfolding nextTwins
   twins-done f l = filled-done _ f l long
 
-  pub edges-ready : {new : ℕ → ℕ} {ys : List ℕ} {h : ℕ} → SmallEdges t at xs → Filled n at new xs ys h → h < n → (Fits n at h ys × t .edges ≤ 4194304) × (cell ys (at + h) < 4194304 × cell ys (at + h + 1) < 4194304 × cell ys (at + h + 2) < 4194304)
-  edges-ready small f l = ((filled-fits _ f l, s .small .edges), all-three (λ e. e < 4194304) small (filled-three _ f l) (filled-trio _ f l))
+  pub edges-ready : {new : ℕ → ℕ} {ys : List ℕ} {h : ℕ} → SmallEdges t at xs → Filled n at new xs ys h → h < n → (Fits n at h ys × t .edges ≤ most-small) × (cell ys (at + h) < most-small × cell ys (at + h + 1) < most-small × cell ys (at + h + 2) < most-small)
+  edges-ready small f l = ((filled-fits _ f l, s .small .edges), all-three (λ e. e < most-small) small (filled-three _ f l) (filled-trio _ f l))
 
   module _ (other : List ℕ) where
     pub other-trio : (h : ℕ) → h % 3 ≡ 0 → h + 3 ≤ n → trio (cell other) (at + h) ≡ trio (λ k. cell other (at + k)) h

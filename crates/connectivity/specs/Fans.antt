@@ -20,7 +20,7 @@ pub data Joined (twin : List ℕ) : ℕ → ℕ → Type 0 where
   back : {g h : ℕ} → Joined twin g h → Joined twin h g
   on : {g h k : ℕ} → Joined twin g h → Joined twin h k → Joined twin g k
 
--- the same as a test: h is met from g by following at most n links
+-- joined by at most n links, as a test: h is met from g by following them
 unfoldable pub met : List ℕ → ℕ → ℕ → ℕ → Bool
 met twin zero g h = eqb g h
 met twin (suc n) g h = eqb g h || not (eqb (link twin g) marker) && met twin n (link twin g) h

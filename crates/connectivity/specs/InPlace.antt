@@ -23,7 +23,7 @@ levelAt t at x = tables (part (x .twin) at (t .halfedges)) (part (x .vert) at (t
 abbrev pub withNext : List ℕ → ℕ → ℕ → List ℕ → List ℕ
 withNext xs at n cells = take (at + n) xs ++ (cells ++ drop (at + 5 * n) xs)
 
--- the same in the three tables
+-- the three tables with the next level's cells after those of a level
 unfoldable pub withNextLevel : HalfedgeTable → ℕ → Tables → Tables
 withNextLevel t at x =
     let c = next t (levelAt t at x) in
@@ -55,7 +55,7 @@ firstHalf e up = 2 * e + cond up 0 1
 abbrev pub secondHalf : ℕ → Bool → ℕ
 secondHalf e up = 2 * e + cond up 1 0
 
--- both
+-- the two halves of an edge
 abbrev pub edgeHalves : ℕ → Bool → List ℕ
 edgeHalves e up = firstHalf e up ∷ secondHalf e up ∷ []
 
@@ -69,10 +69,11 @@ joinTwins a b c n h =
       middle = trio (λ k. 3 * k + 1) h;
     }
 
--- the four in TWIN, VERT and EDGE, from the triangle's cells
+-- TWIN of the four triangles that a triangle is split into, from its twins
 unfoldable pub splitTwins : List ℕ → ℕ → ℕ → Split
 splitTwins twins n h = joinTwins (twinHalves (cell twins 0)) (twinHalves (cell twins 1)) (twinHalves (cell twins 2)) n h
 
+-- VERT of the four, from the triangle's corners and edges
 unfoldable pub splitVerts : List ℕ → List ℕ → ℕ → Split
 splitVerts verts edges v =
     record {
@@ -82,7 +83,7 @@ splitVerts verts edges v =
       middle = (v + cell edges 2) ∷ (v + cell edges 0) ∷ (v + cell edges 1) ∷ [];
     }
 
--- in EDGE, where a, b and c say which of the halfedges are above their twins
+-- EDGE of the four, from the triangle's edges, where a, b and c say which of its halfedges are above their twins
 unfoldable pub splitEdges : List ℕ → Bool → Bool → Bool → ℕ → ℕ → Split
 splitEdges edges a b c e h =
     record {
@@ -108,7 +109,7 @@ setSplit xs base n h s =
 abbrev pub withSplit : List ℕ → ℕ → ℕ → ℕ → List ℕ
 withSplit twin at n h = setSplit twin (at + n) n h (splitTwins (trio (cell twin) (at + h)) n h)
 
--- and in EDGE
+-- the split of the triangle at h, of the level that stands at an offset, in EDGE
 abbrev pub withSplitEdges : List ℕ → ℕ → HalfedgeTable → ℕ → Bool → Bool → Bool → List ℕ
 withSplitEdges edge at t h a b c =
     setSplit edge (at + t .halfedges) (t .halfedges) h (splitEdges (trio (cell edge) (at + h)) a b c (t .edges) h)
@@ -116,6 +117,10 @@ withSplitEdges edge at t h a b c =
 -- cells of the three tables in front of what those held
 unfoldable pub tablesInFront : Tables → Tables → Tables
 tablesInFront c x = tables (inFront (c .twin) (x .twin)) (inFront (c .vert) (x .vert)) (inFront (c .edge) (x .edge))
+
+-- what H, E and V of a small level are at most: no level that is refined has more, and the numbers of the one after it fit a cell
+abbrev pub most-small : ℕ
+most-small = 4194304
 
 -- what a level must have for its next one to be written: less than the rules leave
 pub record Sound (t : HalfedgeTable) (c : Tables) : Type 0 where
@@ -129,40 +134,40 @@ pub record Sound (t : HalfedgeTable) (c : Tables) : Type 0 where
 
 -- a table has room for a small level at an offset, and for the next one
 pub record Housed (t : HalfedgeTable) (at : ℕ) (xs : List ℕ) : Type 0 where
-  pub small : AtMost 4194304 t
+  pub small : AtMost most-small t
   pub whole : t .halfedges % 3 ≡ 0
   pub room : at + 5 * t .halfedges ≤ length xs
 
 -- a twin, all twins of a level and all its edges are small
 abbrev pub SmallTwin : ℕ → Type 0
-SmallTwin t = t ≢ marker → t < 4194304
+SmallTwin t = t ≢ marker → t < most-small
 
 abbrev pub SmallTwins : HalfedgeTable → ℕ → List ℕ → Type 0
 SmallTwins t at twin = (h : ℕ) → h < t .halfedges → SmallTwin (cell twin (at + h))
 
 abbrev pub SmallEdges : HalfedgeTable → ℕ → List ℕ → Type 0
-SmallEdges t at edge = (h : ℕ) → h < t .halfedges → cell edge (at + h) < 4194304
+SmallEdges t at edge = (h : ℕ) → h < t .halfedges → cell edge (at + h) < most-small
 
 -- a triangle of a small level at an offset, with room for its split
 pub record Fits (n at h : ℕ) (xs : List ℕ) : Type 0 where
-  pub small : n ≤ 4194304
+  pub small : n ≤ most-small
   pub within : h + 3 ≤ n
   pub room : at + 5 * n ≤ length xs
 
 -- a small twin whose NEXT is known
 abbrev pub KnownNext : ℕ → ℕ → Type 0
-KnownNext t next = t ≢ marker → (t < 4194304) × (next ≡ NEXT t)
+KnownNext t next = t ≢ marker → (t < most-small) × (next ≡ NEXT t)
 
 -- a small twin that leaves r by 3: which of its triangle's three it is
 abbrev pub Leaving : ℕ → ℕ → Type 0
-Leaving r t = t ≢ marker → (t < 4194304) × (t % 3 ≡ r)
+Leaving r t = t ≢ marker → (t < most-small) × (t % 3 ≡ r)
 
 -- the twins of a corner triangle at k, of which the one across is known, and its NEXT
 pub record CornerTriangle (twin : List ℕ) (k across next : ℕ) : Type 0 where
   pub first : Leaving 2 (cell twin k)
   pub second : cell twin (k + 1) ≡ across
   pub third : Leaving 0 (cell twin (k + 2))
-  pub small : across < 4194304
+  pub small : across < most-small
   pub known : next ≡ NEXT across
 
 -- the twins of a middle triangle at k: those across from it in three corner triangles one after the other
@@ -170,7 +175,7 @@ pub record MiddleTriangle (twin : List ℕ) (k across : ℕ) : Type 0 where
   pub first : cell twin k ≡ across
   pub second : cell twin (k + 1) ≡ across + 3
   pub third : cell twin (k + 2) ≡ across + 6
-  pub small : across + 6 < 4194304
+  pub small : across + 6 < most-small
   pub leaving : across % 3 ≡ 1
 
 -- TWIN of a level above the cage, by the rows that made it from the level before, which has a quarter of its halfedges

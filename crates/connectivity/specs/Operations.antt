@@ -40,7 +40,7 @@ checkTables c v = said (first (tableChecks c v 0)) (returned (c .twin) v) (repli
 abbrev pub refusedCheck : Verdict → Said (List ℕ)
 refusedCheck v = record { verdict = v; values = replicate 5 0 }
 
--- and the answer of a cage that passes
+-- the answer of a cage that passes
 abbrev pub acceptedCheck : List ℕ → ℕ → Said (List ℕ)
 acceptedCheck twin v = record { verdict = DONE; values = returned twin v }
 

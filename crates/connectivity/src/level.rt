@@ -7,7 +7,7 @@ ghost use Rattle.laws.specs.Parts.{part};
 ghost use Rattle.halfedges.specs.Cage.{NEXT, cell};
 ghost use Rattle.connectivity.specs.Tables.{tables};
 ghost use Rattle.connectivity.specs.NextLevel.{nextTwins, nextVerts, nextEdges};
-ghost use Rattle.connectivity.specs.InPlace.{trio, setThree, setSplit, joinTwins, splitTwins, withSplit, splitVerts, splitEdges, twinHalves, isAbove, edgeHalves, withSplitEdges, KnownNext, SmallTwin, SmallTwins, SmallEdges, Fits, CornerTriangle, MiddleTriangle, Descended, Housed, Standing, withNext, withNextLevel};
+ghost use Rattle.connectivity.specs.InPlace.{most-small, trio, setThree, setSplit, joinTwins, splitTwins, withSplit, splitVerts, splitEdges, twinHalves, isAbove, edgeHalves, withSplitEdges, KnownNext, SmallTwin, SmallTwins, SmallEdges, Fits, CornerTriangle, MiddleTriangle, Descended, Housed, Standing, withNext, withNextLevel};
 use halfedges::table::HalfedgeTable;
 
 // A number of a table as an index.
@@ -29,13 +29,13 @@ pub fn is_above(twin: u32, halfedge: usize) -> bool
 
 // The twins of a halfedge's two halves, 3h and 3·NEXT(h)+2, from its own twin t: 3·NEXT(t)+2 and 3·t.
 fn known_halves(twin: usize, next: usize) -> [u32; 2]
-    requires { ⌜ (twin < 4194304) × (next ≡ NEXT twin) ⌝ }
+    requires { ⌜ (twin < most-small) × (next ≡ NEXT twin) ⌝ }
     ensures { λ r. ⌜ r ≡ twinHalves twin ⌝ }
 {
     [(3 * next + 2) as u32, (3 * twin) as u32]
 }
 
-// The same where the twin may be missing.
+// The twins of a halfedge's two halves, where its twin may be missing.
 fn twin_halves(old: u32, next: usize) -> [u32; 2]
     requires { ⌜ KnownNext old next ⌝ }
     ensures { λ r. ⌜ r ≡ twinHalves old ⌝ }
@@ -46,7 +46,7 @@ fn twin_halves(old: u32, next: usize) -> [u32; 2]
     known_halves(wide(old), next)
 }
 
-// The same where any of its triangle's three may be the twin.
+// The twins of a halfedge's two halves, where its twin may be missing and any of its triangle's three.
 fn any_halves(old: u32) -> [u32; 2]
     requires { ⌜ SmallTwin old ⌝ }
     ensures { λ r. ⌜ r ≡ twinHalves old ⌝ }
@@ -54,9 +54,9 @@ fn any_halves(old: u32) -> [u32; 2]
     twin_halves(old, HalfedgeTable::next(wide(old)))
 }
 
-// The edges of the same two: an edge's halves are numbered along the higher of its halfedges.
+// The edges of a halfedge's two halves: an edge's halves are numbered along the higher of its halfedges.
 fn edge_halves(edge: u32, above: bool) -> [u32; 2]
-    requires { ⌜ edge < 4194304 ⌝ }
+    requires { ⌜ edge < most-small ⌝ }
     ensures { λ r. ⌜ r ≡ edgeHalves edge above ⌝ }
 {
     if above {
@@ -67,7 +67,7 @@ fn edge_halves(edge: u32, above: bool) -> [u32; 2]
 
 // The vertex on an edge: V+EDGE(h).
 fn on_edge(edge: u32, vertices: usize) -> u32
-    requires { ⌜ (edge < 4194304) × (vertices ≤ 4194304) ⌝ }
+    requires { ⌜ (edge < most-small) × (vertices ≤ most-small) ⌝ }
     ensures { λ r. ⌜ r ≡ vertices + edge ⌝ }
 {
     (vertices + wide(edge)) as u32
@@ -75,7 +75,7 @@ fn on_edge(edge: u32, vertices: usize) -> u32
 
 // Three numbers, each a step after the one before it.
 fn count_up(from: usize, step: usize) -> [u32; 3]
-    requires { ⌜ (from ≤ 16777216) × (step ≤ 3) ⌝ }
+    requires { ⌜ (from ≤ 4 * most-small) × (step ≤ 3) ⌝ }
     ensures { λ r. ⌜ r ≡ (from ∷ (from + step) ∷ (from + 2 * step) ∷ []) ⌝ }
 {
     [from as u32, (from + step) as u32, (from + 2 * step) as u32]
@@ -98,9 +98,9 @@ struct Split {
     middle: [u32; 3],
 }
 
-// TWIN, from the twins of the halves of the triangle's halfedges.
+// A triangle's split in TWIN, from the twins of the halves of its halfedges.
 fn join_twins(a: [u32; 2], b: [u32; 2], c: [u32; 2], halfedges: usize, first: usize) -> Split
-    requires { ⌜ (halfedges ≤ 4194304) × (first ≤ 4194304) ⌝ }
+    requires { ⌜ (halfedges ≤ most-small) × (first ≤ most-small) ⌝ }
     ensures { λ r. ⌜ r ≡ joinTwins a b c halfedges first ⌝ }
 {
     let across = count_up(3 * halfedges + first, 1);
@@ -112,10 +112,10 @@ fn join_twins(a: [u32; 2], b: [u32; 2], c: [u32; 2], halfedges: usize, first: us
     }
 }
 
-// TWIN, from the triangle's twins.
+// A triangle's split in TWIN, from its twins.
 fn split_twins(twins: [u32; 3], halfedges: usize, first: usize) -> Split
     requires { ⌜ (SmallTwin (cell twins 0)) × (SmallTwin (cell twins 1)) × (SmallTwin (cell twins 2)) ⌝ }
-    requires { ⌜ (halfedges ≤ 4194304) × (first ≤ 4194304) ⌝ }
+    requires { ⌜ (halfedges ≤ most-small) × (first ≤ most-small) ⌝ }
     ensures { λ r. ⌜ r ≡ splitTwins twins halfedges first ⌝ }
 {
     let a = any_halves(twins[0]);
@@ -124,10 +124,10 @@ fn split_twins(twins: [u32; 3], halfedges: usize, first: usize) -> Split
     join_twins(a, b, c, halfedges, first)
 }
 
-// VERT, from the triangle's corners and edges.
+// A triangle's split in VERT, from its corners and edges.
 fn split_verts(verts: [u32; 3], edges: [u32; 3], vertices: usize) -> Split
-    requires { ⌜ (cell edges 0 < 4194304) × (cell edges 1 < 4194304) × (cell edges 2 < 4194304) ⌝ }
-    requires { ⌜ vertices ≤ 4194304 ⌝ }
+    requires { ⌜ (cell edges 0 < most-small) × (cell edges 1 < most-small) × (cell edges 2 < most-small) ⌝ }
+    requires { ⌜ vertices ≤ most-small ⌝ }
     ensures { λ r. ⌜ r ≡ splitVerts verts edges vertices ⌝ }
 {
     let a = on_edge(edges[0], vertices);
@@ -141,7 +141,7 @@ fn split_verts(verts: [u32; 3], edges: [u32; 3], vertices: usize) -> Split
     }
 }
 
-// EDGE, from the triangle's edges and which of its halfedges are above their twins.
+// A triangle's split in EDGE, from its edges and which of its halfedges are above their twins.
 fn split_edges(
     edges: [u32; 3],
     a_above: bool,
@@ -150,8 +150,8 @@ fn split_edges(
     all_edges: usize,
     first: usize,
 ) -> Split
-    requires { ⌜ (cell edges 0 < 4194304) × (cell edges 1 < 4194304) × (cell edges 2 < 4194304) ⌝ }
-    requires { ⌜ («all_edges» ≤ 4194304) × (first ≤ 4194304) ⌝ }
+    requires { ⌜ (cell edges 0 < most-small) × (cell edges 1 < most-small) × (cell edges 2 < most-small) ⌝ }
+    requires { ⌜ («all_edges» ≤ most-small) × (first ≤ most-small) ⌝ }
     ensures { λ r. ⌜ r ≡ splitEdges edges «a_above» «b_above» «c_above» «all_edges» first ⌝ }
 {
     let a = edge_halves(edges[0], a_above);
@@ -234,7 +234,7 @@ fn put_corner(
     put(twin, at + halfedges, halfedges, first, split);
 }
 
-// The same of a middle triangle, whose twins are those across from it in three corner triangles.
+// Writes the split of a middle triangle in TWIN, whose twins are those across from it in three corner triangles.
 fn put_middle(twin: &mut [u32], at: usize, halfedges: usize, first: usize, across: usize)
     requires { ⌜ Fits halfedges at first (now twin) ⌝ }
     requires { ⌜ MiddleTriangle (now twin) (at + first) across ⌝ }
@@ -299,8 +299,8 @@ fn put_edges(
     b_above: bool,
     c_above: bool,
 )
-    requires { ⌜ (Fits (level .halfedges) at first (now edge)) × (level .edges ≤ 4194304) ⌝ }
-    requires { ⌜ (cell (now edge) (at + first) < 4194304) × (cell (now edge) (at + first + 1) < 4194304) × (cell (now edge) (at + first + 2) < 4194304) ⌝ }
+    requires { ⌜ (Fits (level .halfedges) at first (now edge)) × (level .edges ≤ most-small) ⌝ }
+    requires { ⌜ (cell (now edge) (at + first) < most-small) × (cell (now edge) (at + first + 1) < most-small) × (cell (now edge) (at + first + 2) < most-small) ⌝ }
     ensures { λ _. ⌜ now (edge .exit) ≡ withSplitEdges (now (edge .entry)) at level first «a_above» «b_above» «c_above» ⌝ }
 {
     let edges = three(edge, at + first);
@@ -333,7 +333,8 @@ fn cage_edges(edge: &mut [u32], twin: &[u32], at: usize, level: HalfedgeTable)
     }
 }
 
-// The same after a level above the cage, where every middle triangle comes after the corner triangles that it lies across from.
+// The next level's EDGE after a level above the cage, where every middle triangle comes after the corner triangles that it lies
+// across from.
 fn edges_above(edge: &mut [u32], twin: &[u32], at: usize, level: HalfedgeTable)
     requires { ⌜ (Housed level at (now edge)) × (Housed level at (now twin)) ⌝ }
     requires { ⌜ (SmallEdges level at (now edge)) × (Descended level at (now twin)) ⌝ }

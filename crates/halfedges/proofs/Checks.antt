@@ -67,7 +67,7 @@ passed-all (v ∷ vs) e = by (ℕ-discrete (v .number) 0) (λ q. passed-all vs (
     by (yes q) rest = also q (rest q)
     by (no q) rest = absurd (q (ap (λ w. w .number) (sym (first-refused v vs q)) ∙ e))
 
--- the same as the code goes: an answer a tells a verdict v, and n is its number
+-- a list of checks as the code goes through it: an answer a tells a verdict v, and n is its number
 module _ {a v : Verdict} {n : ℕ} (e : a ≡ v) (m : n ≡ a .number) where
   pub number-zero : n ≡ 0 → v .number ≡ 0
   number-zero z = ap (λ w. w .number) (sym e) ∙ sym m ∙ z
@@ -106,7 +106,7 @@ module _ (ws : List Verdict) where
   passed-both [] a = (none, a)
   passed-both (v ∷ vs) (also z a) = let b = passed-both vs a in (also z (b .0), b .1)
 
--- the same of lists that are done, and as the code goes, which tells the first list's answer v
+-- two lists of checks, of which the first is done, and as the code goes, which tells the first list's answer v
 number : {v w : Verdict} → v ≡ w → v .number ≡ w .number
 number e = ap (λ u. u .number) e
 

@@ -13,7 +13,7 @@ level-at-most m t a (suc k) =
     let p = level-at-most m t a k in
     rw (pow-suc 4 k) (record { halfedges = omega arith; edges = omega arith; vertices = omega arith })
 
--- and the levels up to n are at most what level n can be
+-- the levels up to n are at most what level n can be
 pub levels-at-most : (m n : ℕ) (t : HalfedgeTable) → AtMost m t → (k : ℕ) → k ≤ n → AtMost (4 ^ n * m) (countsAt t k)
 levels-at-most m n t a k l =
     let p = level-at-most m t a k in

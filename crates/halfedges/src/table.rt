@@ -17,11 +17,13 @@ impl HalfedgeTable {
     // What stands in TWIN where there is no twin.
     pub const NO_TWIN: u32 = 4294967295;
 
-    // What a cage has at most, and the deepest level.
+    // The most halfedges that a cage has.
     pub const MOST_HALFEDGES: usize = 3072;
 
+    // The most vertices that a cage has.
     pub const MOST_VERTICES: usize = 2048;
 
+    // The deepest level.
     pub const MOST_DEPTH: usize = 6;
 
     // The next halfedge of the same triangle.

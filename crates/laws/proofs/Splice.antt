@@ -1,9 +1,9 @@
 -- Laws of cells written over a list. Assumes nothing.
 --     splice-more      two splices end to end are one
---     over-more        the same where the first is at the front
+--     over-more        two splices end to end are one, where the first is at the front
 --     splice-part      what was written over a lent part is spliced into the whole
 --     splice-one       a store is a splice
---     splice-two       and so are two side by side
+--     splice-two       two stores side by side are a splice
 use Prim.Native.Nat.{ℕ, _+_, _-_, _≤_, _<_}
 use mathlib.Core.Path.{_≡_, refl, sym, ap, _∙_}
 use mathlib.Core.List.{List, [], _∷_, _++_, append-assoc, append-nil}

@@ -19,7 +19,7 @@ module _ {A : Type 0} (f : ℕ → A → A) (x : A) where
   pub steps-on : (n : ℕ) {y z : A} → y ≡ steps n f x → z ≡ f n y → z ≡ steps (n + 1) f x
   steps-on n e d = d ∙ ap (f n) e ∙ sym (steps-more n)
 
-  -- and its last
+  -- a loop that has come to its last turn
   pub steps-end : {n m : ℕ} {y : A} → y ≡ steps n f x → n ≡ m → y ≡ steps m f x
   steps-end e q = e ∙ ap (λ k. steps k f x) q
 

@@ -1,5 +1,6 @@
 -- Laws of tests. Assumes nothing.
 --     or-false, or-false₃      every part of a disjunction that fails
+--     and-true                 both parts of a conjunction that holds
 --     and-false                a conjunction with a part that fails
 --     by-test                  a test holds or fails
 --     same-tests, same-eqb     tests that hold together are the same
@@ -25,6 +26,11 @@ or-false₃ a b c e =
     let n = or-false (a || b) c e in
     let m = or-false a b (n .0) in
     (m .0, m .1, n .1)
+
+-- both parts of a conjunction that holds
+pub and-true : (a b : Bool) → (a && b) ≡ true → (a ≡ true) × (b ≡ true)
+and-true true b e = (refl, e)
+and-true false b e = absurd (true≢false (sym e))
 
 pub and-false : (a : Bool) → (a && false) ≡ false
 and-false true = refl

@@ -18,21 +18,21 @@ abbrev pub sum : ℕ → (ℕ → ℕ) → ℕ
 sum zero f = 0
 sum (suc n) f = sum n f + f n
 
--- how many of them pass the test
+-- how many of the numbers below n pass the test
 abbrev pub count : ℕ → (ℕ → Bool) → ℕ
 count n p = sum n (λ k. cond (p k) 1 0)
 
--- those that pass, in their order
+-- the numbers below n that pass, in their order
 abbrev pub select : ℕ → (ℕ → Bool) → List ℕ
 select zero p = []
 select (suc n) p = select n p ++ cond (p n) (n ∷ []) []
 
--- one of them passes
+-- a number below n passes
 abbrev pub any : ℕ → (ℕ → Bool) → Bool
 any zero p = false
 any (suc n) p = any n p || p n
 
--- the lowest that passes, n where none does
+-- the lowest number below n that passes, n where none does
 abbrev pub lowest : ℕ → (ℕ → Bool) → ℕ
 lowest zero p = 0
 lowest (suc n) p = cond (p 0) 0 (suc (lowest n (λ k. p (suc k))))

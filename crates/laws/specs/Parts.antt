@@ -11,6 +11,6 @@ part xs at n = take n (drop at xs)
 abbrev pub inFront : {A : Type 0} → List A → List A → List A
 inFront cells xs = cells ++ drop (length cells) xs
 
--- the same from a place on; before it, what the list held
+-- some cells from a place on; before and past them what the list held
 abbrev pub splice : {A : Type 0} → List A → ℕ → List A → List A
 splice xs at cells = take at xs ++ inFront cells (drop at xs)

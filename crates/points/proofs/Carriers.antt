@@ -56,7 +56,7 @@ module _ (twin edge : List ℕ) (e : ℕ) (carried : Carried twin edge e) where
       by (inl e) = absurd (carried .twin-other h l q (sym e))
       by (inr e) = sym e
 
-  -- and who has none or a higher one is its edge's carrier, where no halfedge's number is the marker
+  -- a halfedge with no twin or a higher one is its edge's carrier, where no halfedge's number is the marker
   pub first-carrier : length edge ≤ marker → (h : ℕ) → h < length edge → lowest-carrier twin h ≡ true → carrier edge (cell edge h) ≡ h
   first-carrier short h l f = by (carried .own (carrier edge (cell edge h)) h (carrier-below (cell edge h) (carried .below h l)) l (carrier-carries (cell edge h) (carried .below h l)))
     where

@@ -55,7 +55,7 @@ module _ (f : ℕ → ℤ) (p : ℕ → Bool) where
 abbrev pub spokeSum : List ℕ → List ℤ → ℕ → ℕ → ℕ → ℤ
 spokeSum vert points k v = scan (λ h. coordinate points k (far vert h)) (leaves vert v)
 
--- and over the far ends of v's border edges: of those that leave v, and of those that end there
+-- coordinate k, summed over the far ends of v's border edges among the halfedges below n: of those that leave v, and of those that end there
 abbrev pub leavingSum : List ℕ → List ℕ → List ℤ → ℕ → ℕ → ℕ → ℤ
 leavingSum twin vert points k v = scan (λ h. coordinate points k (far vert h)) (borderLeaves twin vert v)
 

@@ -44,7 +44,7 @@ pub record Within (n most : ℕ) (l : List ℤ) : Type 0 where
   pub room : 6 * n ≤ length l
   pub sums : (x k : ℕ) → x < n → k < 3 → natAbs (value l (3 * n + 3 * x + k)) ≤ most
 
--- and at most so much more after numbers were added to those of vertex v
+-- the sums are at most so much more after numbers were added to those of vertex v
 pub within-on : (n v most more : ℕ) (g : ℕ → ℤ) (l : List ℤ) {m : List ℤ} → m ≡ added n v g l → v < n → ((k : ℕ) → k < 3 → natAbs (g k) ≤ more) → Within n most l → Within n (most + more) m
 within-on n v most more g l {m} e lv small within =
     record {

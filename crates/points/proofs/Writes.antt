@@ -193,7 +193,7 @@ module _ (twin vert edge : List ℕ) (n : ℕ) (l : List ℤ) (t : ℕ) where
           three = rw (first-is l, second-is (putEdge twin vert edge n l (3 * t) l)) (asks (3 * t + 2) (3 * t) (3 * t + 1) b h0 h1 (putEdge twin vert edge n l (3 * t + 1) (putEdge twin vert edge n l (3 * t) l)) two (started .third));
         }
 
-    -- and reading it
+    -- reading the triangle's corners
     pub triangle-readable : ((i : ℕ) → i < 3 → 3 * cell (corners vert t) i + 2 < length l)
     triangle-readable = three (λ i. 3 * cell (corners vert t) i + 2 < length l) (at (3 * t) (omega arith)) (at (3 * t + 1) (omega arith)) (at (3 * t + 2) b)
       where

@@ -19,7 +19,7 @@ use Rattle.points.specs.Relied.{Relied, Known, Fourfold, InRange}
 abbrev pub pointsAt : HalfedgeTable → ℕ → List ℤ → List ℤ
 pointsAt t at points = take (3 * t .vertices) (drop at points)
 
--- where the next level's points end
+-- where the points of the level after one at cell `at` end
 abbrev pub nextEnd : HalfedgeTable → ℕ → ℕ
 nextEnd t at = at + 3 * t .vertices + 3 * (t .vertices + t .edges)
 
@@ -27,7 +27,7 @@ nextEnd t at = at + 3 * t .vertices + 3 * (t .vertices + t .edges)
 unfoldable pub withNext : HalfedgeTable → Tables → ℕ → List ℤ → List ℤ
 withNext t c at points = take (at + 3 * t .vertices) points ++ (nextPoints t c (pointsAt t at points) ++ drop (nextEnd t at) points)
 
--- what that takes: the tables' promise, known corners, points in range and room; and no halfedge's number is the marker
+-- what the next level's points take: the tables' promise, known corners, points in range and room; and no halfedge's number is the marker
 pub record Ready (own : List ℕ) (before : ℕ) (t : HalfedgeTable) (c : Tables) (at : ℕ) (points : List ℤ) : Type 0 where
   pub relied : Relied t c
   pub known : Known own (c .twin) (c .vert) (t .vertices)

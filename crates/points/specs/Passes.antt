@@ -50,7 +50,7 @@ pub record Laid (n : ℕ) (l : List ℤ) : Type 0 where
 unfoldable pub clearCell : ℕ → ℕ → List ℤ → List ℤ
 clearCell n i l = set l (3 * n + i) (pos 0)
 
--- all of them are
+-- every cell of the sums is 0
 abbrev pub Cleared : ℕ → List ℤ → Type 0
 Cleared n l = (i : ℕ) → i < 3 * n → value l (3 * n + i) ≡ pos 0
 
@@ -58,7 +58,7 @@ Cleared n l = (i : ℕ) → i < 3 * n → value l (3 * n + i) ≡ pos 0
 unfoldable pub addPoint : ℕ → ℕ → ℕ → List ℤ → List ℤ
 addPoint n a b l = put (3 * n + 3 * a) (λ k. value l (3 * n + 3 * a + k) +ℤ coordinate l k b) l
 
--- there is room for it, and no sum wraps
+-- the point of b can be added to the sums of a: there is room, and no sum wraps
 pub record Adds (n a b : ℕ) (l : List ℤ) : Type 0 where
   pub in-a : a < n
   pub in-b : b < n
@@ -79,10 +79,11 @@ pub record AddsTriangle (n : ℕ) (corners : List ℕ) (l : List ℤ) : Type 0 w
 unfoldable pub spoke : List ℕ → ℕ → ℕ → List ℤ → List ℤ
 spoke vert n h l = addPoint n (cell vert h) (far vert h) l
 
--- a point is added to the sums of vertex v; three points are
+-- a point is added to the sums of vertex v
 unfoldable pub addTo : ℕ → ℕ → List ℤ → List ℤ → List ℤ
 addTo n v p l = put (3 * n + 3 * v) (λ k. value l (3 * n + 3 * v + k) +ℤ value p k) l
 
+-- three points are added to the sums of vertex v
 unfoldable pub addThreeTo : ℕ → ℕ → List ℤ → List ℤ → List ℤ → List ℤ → List ℤ
 addThreeTo n v p q r l = put (3 * n + 3 * v) (λ k. value l (3 * n + 3 * v + k) +ℤ (value p k +ℤ value q k +ℤ value r k)) l
 
@@ -93,13 +94,13 @@ addFour n u v w a b c l =
     (addThreeTo n a (pointOf l v) (pointOf l b) (pointOf l c)
     (addThreeTo n c (pointOf l u) (pointOf l a) (pointOf l b) (addTo n w (pointOf l c) (addTo n v (pointOf l b) (addTo n u (pointOf l a) l)))))
 
--- there is room, and no sum wraps: they are those of at most 1,024 coordinates
+-- twelve spokes can be added at once: there is room, and no sum wraps, since each is one of at most 1,024 coordinates
 pub record AddsFour (n u v w a b c : ℕ) (l : List ℤ) : Type 0 where
   pub below : (u < n) × (v < n) × (w < n) × (a < n) × (b < n) × (c < n)
   pub laid : Laid n l
   pub sums : (x k : ℕ) → x < n → k < 3 → natAbs (value l (3 * n + 3 * x + k)) ≤ most-coordinate * most-corners
 
--- of triangle g of the level before
+-- the twelve spokes of the four triangles that triangle g of the level before was split into
 unfoldable pub fourSpokes : List ℕ → ℕ → ℕ → List ℤ → List ℤ
 fourSpokes vert n g l = addFour n (cell vert (9 * g)) (cell vert (9 * g + 3)) (cell vert (9 * g + 6)) (cell vert (9 * g + 1)) (cell vert (9 * g + 4)) (cell vert (9 * g + 7)) l
 
@@ -111,7 +112,7 @@ gathered vert n before l = cond (eqb before 0) (steps (length vert) (spoke vert 
 unfoldable pub settle : List ℕ → ℕ → ℕ → List ℤ → List ℤ
 settle own n i l = set l (3 * n + i) (V3 (knownCorners own (i / 3)) (value l i) (value l (3 * n + i)))
 
--- what the rule asks of corners, a place and a sum
+-- what V.3 asks of corners, a place and a sum
 pub record Settles (corners : ℕ) (x sum : ℤ) : Type 0 where
   pub some : 0 < corners
   pub few : corners ≤ most-corners
@@ -125,7 +126,7 @@ SettlesAt own n i l = Settles (knownCorners own (i / 3)) (value l i) (value l (3
 abbrev pub started : ℤ → ℤ → ℤ → ℤ
 started a b c = pos 3 *ℤ a +ℤ pos 3 *ℤ b +ℤ c
 
--- and E.2 with what the higher one adds
+-- E.2, from the sum of the lower halfedge and the opposite corner that the higher one adds
 abbrev pub finished : ℤ → ℤ → ℤ
 finished sum d = round (sum +ℤ d) 8
 
@@ -155,7 +156,8 @@ finishEdge n e r l = put (6 * n + 3 * e) (λ k. finished (value l (6 * n + 3 * e
 unfoldable pub innerEdge : ℕ → ℕ → ℕ → ℕ → List ℤ → List ℤ → List ℤ → List ℤ → List ℤ
 innerEdge n h t e p q r l = cond (ltb t h) (finishEdge n e r l) (startEdge n e p q r l)
 
--- there is room, the points are in range, and where h is the higher halfedge of its edge, the lower one has been there
+-- what `innerEdge` asks: there is room, the points are in range, and where h is the higher halfedge of its edge, the lower one has
+-- been there
 pub record AsksInner (n h t e : ℕ) (p q r l : List ℤ) : Type 0 where
   pub room : 6 * n + 3 * e + 2 < length l
   pub from-near : Near p
@@ -163,7 +165,7 @@ pub record AsksInner (n h t e : ℕ) (p q r l : List ℤ) : Type 0 where
   pub opposite-near : Near r
   pub started-there : t < h → (k : ℕ) → k < 3 → natAbs (value l (6 * n + 3 * e + k)) ≤ most-coordinate * 7
 
--- with or without a twin, from vertex a to b
+-- halfedge h of edge e, with or without a twin, from vertex a to b, at p and q with opposite corner r
 unfoldable pub stepEdge : ℕ → ℕ → ℕ → ℕ → ℕ → ℕ → List ℤ → List ℤ → List ℤ → List ℤ → List ℤ
 stepEdge n h t e a b p q r l = cond (eqb t marker) (borderEdge n e a b p q l) (innerEdge n h t e p q r l)
 
@@ -184,7 +186,7 @@ triangleOf twin vert edge points t =
       third = pointOf points (cell vert (3 * t + 2));
     }
 
--- its halfedges h, h + 1 and h + 2
+-- the halfedges h, h + 1 and h + 2 of a triangle
 abbrev pub stepFirst : ℕ → ℕ → Triangle → List ℤ → List ℤ
 stepFirst n h x l = stepEdge n h (cell (x .twins) 0) (cell (x .edges) 0) (cell (x .corners) 0) (cell (x .corners) 1) (x .first) (x .second) (x .third) l
 
@@ -225,7 +227,7 @@ pub record Edged (twin vert edge : List ℕ) (n : ℕ) (l : List ℤ) : Type 0 w
 abbrev pub Started : List ℕ → List ℕ → ℕ → ℕ → List ℤ → Type 0
 Started twin edge n h l = cell twin h < h → (k : ℕ) → k < 3 → natAbs (value l (6 * n + 3 * cell edge h + k)) ≤ most-coordinate * 7
 
--- of a triangle's three halfedges
+-- 4 of a triangle's three halfedges
 unfoldable pub putTriangle : List ℕ → List ℕ → List ℕ → ℕ → List ℤ → ℕ → List ℤ → List ℤ
 putTriangle twin vert edge n points t l =
     putEdge twin vert edge n points (3 * t + 2) (putEdge twin vert edge n points (3 * t + 1) (putEdge twin vert edge n points (3 * t) l))

@@ -19,17 +19,18 @@ use Rattle.points.specs.Operations.{most-coordinate}
 abbrev pub most-corners : ℕ
 most-corners = 1024
 
--- of VERT, for v vertices: rules 1, 4 and 5, and the limit
+-- what the point rules rely on of VERT, for v vertices: rules 1, 4 and 5, and the limit
 pub record Cornered (vert : List ℕ) (v : ℕ) : Type 0 where
   pub whole : length vert % 3 ≡ 0
   pub below : (h : ℕ) → h < length vert → cell vert h < v
   pub some : (u : ℕ) → u < v → 0 < length (corners vert u)
   pub few : (u : ℕ) → u < v → length (corners vert u) ≤ most-corners
 
--- h is a border halfedge that leaves u; one that ends there
+-- h is a border halfedge that leaves u
 abbrev pub borderLeaves : List ℕ → List ℕ → ℕ → ℕ → Bool
 borderLeaves twin vert u h = border twin h && leaves vert u h
 
+-- h is a border halfedge that ends at u
 abbrev pub borderEnds : List ℕ → List ℕ → ℕ → ℕ → Bool
 borderEnds twin vert u h = border twin h && eqb (far vert h) u
 
@@ -43,7 +44,7 @@ pub record Bordered (twin vert : List ℕ) (v : ℕ) : Type 0 where
 abbrev pub knownCorners : List ℕ → ℕ → ℕ
 knownCorners own u = getD own u 6
 
--- it does have them, and none has more
+-- every vertex inside has its known corners, and no vertex has more
 pub record Known (own twin vert : List ℕ) (v : ℕ) : Type 0 where
   pub inside : (u : ℕ) → u < v → count (length vert) (borderLeaves twin vert u) ≡ 0 → length (corners vert u) ≡ knownCorners own u
   pub most : (u : ℕ) → u < v → length (corners vert u) ≤ knownCorners own u
@@ -60,7 +61,7 @@ pub record Carried (twin edge : List ℕ) (e : ℕ) : Type 0 where
   pub some : (i : ℕ) → i < e → (h : ℕ) × (h < length edge) × (cell edge h ≡ i)
   pub own : (g h : ℕ) → g < length edge → h < length edge → cell edge g ≡ cell edge h → (g ≡ h) ⊎ (g ≡ cell twin h)
 
--- of a level's tables and counts
+-- what the point rules rely on of a level's tables and counts
 pub record Relied (t : HalfedgeTable) (c : Tables) : Type 0 where
   pub halfedges : length (c .vert) ≡ t .halfedges
   pub cornered : Cornered (c .vert) (t .vertices)
@@ -71,8 +72,8 @@ pub record Relied (t : HalfedgeTable) (c : Tables) : Type 0 where
 abbrev pub InRange : List ℤ → Type 0
 InRange points = (i : ℕ) → i < length points → natAbs (getD points i (pos 0)) ≤ most-coordinate
 
--- of VERT above the cage, where the level before had so many halfedges. Each of its triangles became four: three at its corners,
--- which stand together, and past all of those the middle one, whose halfedges run back along the second ones of the three
+-- what is known of VERT above the cage, where the level before had so many halfedges. Each of its triangles became four: three at its
+-- corners, which stand together, and past all of those the middle one, whose halfedges run back along the second ones of the three
 pub record Fourfold (before : ℕ) (vert : List ℕ) : Type 0 where
   pub long : length vert ≡ 4 * before
   pub whole : before % 3 ≡ 0

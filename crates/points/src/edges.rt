@@ -19,7 +19,7 @@ use crate::rules::started_edge;
 use halfedges::corners::corners_of;
 use halfedges::table::HalfedgeTable;
 
-// From the lower halfedge of an inner edge with ends a, b and opposite corner c.
+// The part of the lower halfedge in the point of an inner edge with ends a, b and opposite corner c.
 fn start_edge(points: &mut [i32], to: usize, a: [i32; 3], b: [i32; 3], c: [i32; 3])
     requires { ⌜ (to + 2 < length (now points)) × (Near a) × (Near b) × (Near c) ⌝ }
     ensures { λ _. ⌜ now (points .exit) ≡ put to (λ k. started (value a k) (value b k) (value c k)) (now (points .entry)) ⌝ }
@@ -30,7 +30,7 @@ fn start_edge(points: &mut [i32], to: usize, a: [i32; 3], b: [i32; 3], c: [i32; 
     put_point(&mut *points, to, x, y, z);
 }
 
-// From the higher one, with opposite corner d.
+// The part of the higher halfedge in the point of an inner edge, with opposite corner d.
 fn finish_edge(points: &mut [i32], to: usize, d: [i32; 3])
     requires { ⌜ (to + 2 < length (now points)) × (Near d) × ((k : ℕ) → k < 3 → natAbs (value (now points) (to + k)) ≤ most-coordinate * 7) ⌝ }
     ensures { λ _. ⌜ now (points .exit) ≡ put to (λ k. finished (value (now (points .entry)) (to + k)) (value d k)) (now (points .entry)) ⌝ }
@@ -63,7 +63,7 @@ fn meet_one(points: &mut [i32], to: usize, v: [i32; 3], a: [i32; 3])
     put_point(&mut *points, to, x, y, z);
 }
 
-// A border edge from vertex a to vertex b, at p and q.
+// The part of a halfedge without twin, from vertex a to vertex b, at p and q.
 fn put_border(
     points: &mut [i32],
     vertices: usize,
@@ -81,7 +81,7 @@ fn put_border(
     meet_one(&mut *points, 3 * vertices + 3 * b, q, p);
 }
 
-// A halfedge that has a twin, of an edge, with its ends at p and q and its opposite corner at r.
+// The part of a halfedge that has a twin, with its ends at p and q and its opposite corner at r.
 fn step_inner(
     points: &mut [i32],
     vertices: usize,
@@ -103,7 +103,7 @@ fn step_inner(
     start_edge(&mut *points, to, p, q, r);
 }
 
-// Any halfedge, from vertex a to vertex b.
+// The part of any halfedge, from vertex a to vertex b, with its ends at p and q and its opposite corner at r.
 fn step_edge(
     points: &mut [i32],
     vertices: usize,
@@ -171,7 +171,7 @@ fn read_triangle(
     }
 }
 
-// A triangle's three halfedges, with one on a border or not.
+// A triangle's part in the points of its edges, of which some may be borders.
 fn write_any(points: &mut [i32], vertices: usize, first: usize, triangle: Triangle)
     requires { ⌜ AsksTriangle vertices first triangle (now points) ⌝ }
     ensures { λ _. ⌜ now (points .exit) ≡ stepTriangle vertices first triangle (now (points .entry)) ⌝ }
@@ -220,7 +220,7 @@ fn write_any(points: &mut [i32], vertices: usize, first: usize, triangle: Triang
     );
 }
 
-// The same, with none on a border.
+// A triangle's part in the points of its edges, where none of them is a border.
 fn write_inner(points: &mut [i32], vertices: usize, first: usize, triangle: Triangle)
     requires { ⌜ (AsksTriangle vertices first triangle (now points)) × (borderAmong (triangle .twins) ≡ false) ⌝ }
     ensures { λ _. ⌜ now (points .exit) ≡ stepTriangle vertices first triangle (now (points .entry)) ⌝ }
@@ -266,8 +266,8 @@ fn border_among(twins: [u32; 3]) -> bool
     twins[2] == HalfedgeTable::NO_TWIN
 }
 
-// A triangle's three halfedges. Few triangles lie on a border: the rest go by shorter code, of which the compiler makes one
-// loop without a call.
+// A triangle's part in the points of its edges. Few triangles lie on a border: the rest go by shorter code, of which the compiler
+// makes one loop without a call.
 fn write_triangle(
     twin: &[u32],
     vert: &[u32],
@@ -288,7 +288,7 @@ fn write_triangle(
     write_inner(&mut *points, vertices, 3 * triangle, read);
 }
 
-// Every halfedge, triangle by triangle.
+// The points of all edges, and V.2 at the border: the part of every halfedge, triangle by triangle.
 pub fn write_edges(twin: &[u32], vert: &[u32], edge: &[u32], points: &mut [i32], vertices: usize)
     requires { ⌜ (Edged (now twin) (now vert) (now edge) vertices (now points)) × ((h : ℕ) → h < length (now vert) → Started (now twin) (now edge) vertices h (steps h (putEdge (now twin) (now vert) (now edge) vertices (now points)) (now points))) ⌝ }
     ensures { λ _. ⌜ now (points .exit) ≡ steps (length (now (vert .entry))) (putEdge (now (twin .entry)) (now (vert .entry)) (now (edge .entry)) vertices (now (points .entry))) (now (points .entry)) ⌝ }

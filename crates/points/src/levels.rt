@@ -75,7 +75,7 @@ fn refine_levels(
     }
 }
 
-// The same, without the corners.
+// The points of levels 1 to the depth, after those of the cage; the corners of the cage's vertices are counted first.
 pub fn refine_points(
     table: HalfedgeTable,
     depth: usize,

@@ -10,7 +10,10 @@ ghost use Rattle.points.specs.Passes.{started, finished, met};
 use rounding::rounded;
 
 // The largest coordinate of a cage.
-const MOST_COORDINATE: i32 = 1048576;
+pub const MOST_COORDINATE: i32 = 1048576;
+
+// The smallest coordinate of a cage.
+pub const LEAST_COORDINATE: i32 = -MOST_COORDINATE;
 
 // What is added to V.2's numerator till its second neighbour is known, so that it is no coordinate.
 const MARK: i32 = 1073741824;
@@ -32,7 +35,7 @@ pub fn started_edge(a: i32, b: i32, c: i32) -> i32
     3 * a + 3 * b + c
 }
 
-// E.2, with the opposite corner d that the higher one has.
+// E.2: the point of an inner edge, from what its lower halfedge started and the opposite corner d of the higher one.
 pub fn finished_edge(sum: i32, d: i32) -> i32
     requires { ⌜ (natAbs sum ≤ most-coordinate * 7) × (natAbs d ≤ most-coordinate) ⌝ }
     ensures { λ r. ⌜ r ≡ finished sum d ⌝ }

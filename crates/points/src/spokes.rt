@@ -77,7 +77,7 @@ fn add_to(points: &mut [i32], to: usize, p: [i32; 3])
     put_point(&mut *points, to, x, y, z);
 }
 
-// Three points are.
+// Three points are added to the sums at a cell.
 fn add_three_to(points: &mut [i32], to: usize, p: [i32; 3], q: [i32; 3], r: [i32; 3])
     requires { ⌜ (to + 2 < length (now points)) × (Near p) × (Near q) × (Near r) × ((k : ℕ) → k < 3 → natAbs (value (now points) (to + k)) + most-coordinate * 3 < 2 ^ 31) ⌝ }
     ensures { λ _. ⌜ now (points .exit) ≡ put to (λ k. value (now (points .entry)) (to + k) +ℤ (value p k +ℤ value q k +ℤ value r k)) (now (points .entry)) ⌝ }

@@ -19,7 +19,7 @@ fn settle_own(points: &mut [i32], start: usize, i: usize, corners: u32)
     points[start + i] = inner_vertex(corners as i64, place, sum);
 }
 
-// The same of a vertex with six.
+// Cell i of the new places, of a vertex with six corners.
 fn settle_added(points: &mut [i32], start: usize, i: usize)
     requires { ⌜ (start + i < length (now points)) × (Settles 6 (value (now points) i) (value (now points) (start + i))) ⌝ }
     ensures { λ _. ⌜ now (points .exit) ≡ set (now (points .entry)) (start + i) (V3 6 (value (now (points .entry)) i) (value (now (points .entry)) (start + i))) ⌝ }
@@ -29,7 +29,7 @@ fn settle_added(points: &mut [i32], start: usize, i: usize)
     points[start + i] = added_vertex(place, sum);
 }
 
-// Every vertex's: the cage's own by their listed corners, and those added since by six.
+// Every vertex's new place: the cage's own by their listed corners, and those added since by six.
 pub fn settle_vertices(own: &[u32], points: &mut [i32], vertices: usize)
     requires { ⌜ (length (now own) ≤ vertices) × (6 * vertices ≤ length (now points)) × ((i : ℕ) → i < 3 * vertices → SettlesAt (now own) vertices i (now points)) ⌝ }
     ensures { λ _. ⌜ now (points .exit) ≡ steps (3 * vertices) (settle (now (own .entry)) vertices) (now (points .entry)) ⌝ }

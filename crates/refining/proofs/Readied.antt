@@ -98,7 +98,7 @@ module _ (c : Tables) (points : List ℤ) (depth : ℕ) (x : Tables) (xp : List 
       (inFront-over points xp (endToEnd (suc depth) (levelPoints t c points))
       (omega (arith, points-fit, length-multiples 3 (levelPoints t c points) (Vs t) (suc depth) (λ d l. level-long d))))
 
-  -- the same as the code has them
+  -- what is ready, and what covers it, with the counts, tables and points as the code has them
   module _ {u : HalfedgeTable} {y : Tables} {z : List ℤ} (p : u ≡ t) (q : y ≡ tablesInFront (levelsEndToEnd t c depth) x) (r : z ≡ inFront points xp) where
     pub readied : ReadyLevels u depth y z
     readied = rw (p, q, r) ready

@@ -67,7 +67,7 @@ module _ (c : Tables) (points : List ℤ) (depth : ℕ) (x : Tables) (xp : List 
     pub cage-done : n ≡ 0 → first (cageChecks c points depth) ≡ DONE
     cage-done z = sym e ∙ zero-done a (sym m ∙ z)
 
-  -- and b the first short table of the three
+  -- where 1 to 8 pass, b tells the first short table of the three
   module _ (d : first (cageChecks c points depth) ≡ DONE) (b : Answer) {n : ℕ} (e : told b ≡ first rooms) (m : n ≡ told b .number) where
     pub tables-short : n ≢ 0 → told b ≡ refineVerdict c points depth x xp
     unfolding refineVerdict

@@ -150,7 +150,7 @@ pub record LevelsFit (s : Said Levels) : Type 0 where
 levels-fit : (s : Said Levels) → Small (s .verdict) → Laid (s .values) → LevelsFit s
 levels-fit s v l = record { sevens = l .sevens; fitting = (v .0, (v .1, l .fitting)) }
 
--- the same of a result that tells such an answer
+-- a result that tells an answer with counts whose verdict is small
 pub levels-told : (r : Counted) (s : Said Levels) → counted r ≡ s → LevelsFit s → Sevens (r .levels) × Fitting (levelCells (counted r))
 levels-told r s e f = let g : LevelsFit (counted r) = rw e f in (g .sevens, g .fitting)
 

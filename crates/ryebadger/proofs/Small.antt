@@ -71,7 +71,7 @@ unfolding first given
 guarded-small true v vs r s f = rw r s
 guarded-small false v vs r s f = f refl
 
--- and after several
+-- the checks after several that they may rely on
 pub joined-small : (vs ws : List Verdict) → Small (first vs) → (first vs ≡ DONE → Small (first ws)) → Small (first (vs ++ ws))
 joined-small vs ws s f = by (ℕ-discrete (first vs .number) 0)
   where

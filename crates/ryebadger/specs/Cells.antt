@@ -10,14 +10,15 @@ use Rattle.halfedges.specs.Refusals.{Said}
 abbrev pub cells : Said (List ℕ) → List ℕ
 cells s = s .verdict .number ∷ s .verdict .place ∷ s .values
 
--- of a file's length
+-- number, place and a file's length
 abbrev pub lengthCells : Said ℕ → List ℕ
 lengthCells s = cells (record { verdict = s .verdict; values = s .values ∷ [] })
 
--- of "the counts of all seven levels at once, H, E and V of each .., with the room"
+-- "the counts of all seven levels at once, H, E and V of each .., with the room"
 abbrev pub levelNumbers : Levels → List ℕ
 levelNumbers l = l .halfedges ++ (l .edges ++ (l .vertices ++ (l .«halfedge_room» ∷ l .«vertex_room» ∷ [])))
 
+-- number, place and the counts
 abbrev pub levelCells : Said Levels → List ℕ
 levelCells s = cells (record { verdict = s .verdict; values = levelNumbers (s .values) })
 

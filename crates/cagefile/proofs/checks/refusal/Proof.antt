@@ -63,7 +63,7 @@ module _ (c : tie.Else2) where
   counts-passed : verdict (start₂ c) ≡ first (rest (start₂ c) (HIn (f (start₂ c))) (VIn (f (start₂ c))))
   counts-passed = head-passed (c .before .before .before) ∙ first-more _ _ counts-done
 
--- the same with H and V as the code has them
+-- what is left to check once the opening has passed, with H and V as the code has them
 counts-had : (c : tie.After-vertices-in) → verdict (start₂ (c .before .before)) ≡ first (rest (start₂ (c .before .before)) (c .before .halfedges-in .result) (c .vertices-in .result))
 counts-had c = counts-passed (c .before .before) ∙ sym (ap₂ (λ h v. first (rest (start₂ (c .before .before)) h v)) (c .before .halfedges-in .ensures .0) (c .vertices-in .ensures .0))
 

@@ -33,7 +33,7 @@ module _ (i : tie.In-loop Inv-loop μ-loop Inv-loop2 μ-loop2) where
   whole : i .before .loop .first + 3 ≤ start .args .level .halfedges
   whole = filled-three (start .pre .0 .0) _ (i .before .loop .inv) inside
 
--- a turn of the second: the same, and the middle triangle
+-- a turn of the second loop: its table, and the middle triangle
 module _ (i : tie.In-loop2 Inv-loop μ-loop Inv-loop2 μ-loop2) where
   abbrev start2 : tie.Start Inv-loop μ-loop Inv-loop2 μ-loop2
   start2 = i .before .before .before .before .before .before

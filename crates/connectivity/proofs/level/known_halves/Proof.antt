@@ -5,10 +5,11 @@ use native.Mathlib.Omega.{arith}
 use borrow.Author.Tests.{ne-eqb}
 use Rattle.halfedges.specs.Cage.{marker}
 use Rattle.halfedges.proofs.Triangle.{next-at-most}
+use Rattle.connectivity.specs.InPlace.{most-small}
 use Rattle.connectivity.proofs.level.known_halves.Statement.{statement}
 use Rattle.connectivity.proofs.level.known_halves.Tie as tie
 
-small : (c : tie.Start) → c .args .next ≤ 4194304
+small : (c : tie.Start) → c .args .next ≤ most-small
 small c = omega (arith, c .pre .1, next-at-most (c .args .twin), c .pre .0)
 
 mul-t3 : tie.Need-mul-t3

@@ -3,6 +3,7 @@ use Prim.Native.Nat.{_+_, _-_, _≤_, _<_}
 use mathlib.Core.Path.{_∙_}
 use native.Mathlib.Omega.{arith}
 use Rattle.laws.specs.Parts.{part}
+use Rattle.connectivity.specs.InPlace.{most-small}
 use Rattle.connectivity.specs.NextLevel.{newVert}
 use Rattle.connectivity.proofs.Triangles.{Filled, all-three, filled-start, filled-long, filled-three, other-trio, verts-on, verts-done}
 use Rattle.connectivity.proofs.level.next_verts.Statement.{statement}
@@ -40,7 +41,7 @@ three-requires-2 c κs = let i = c .before .before in omega (arith, whole i, sta
 split-verts-requires : tie.Need-split-verts-requires Inv-loop μ-loop
 split-verts-requires c κs =
     let i = c .before .before .before in
-    (all-three (λ e. e < 4194304) (start i .pre .1) (whole i) (c .three2 .ensures ∙ other-trio (start i .pre .0 .0) (start i .args .edge .now) _ (i .before .loop .inv .first) (whole i)), start i .pre .0 .0 .small .vertices)
+    (all-three (λ e. e < most-small) (start i .pre .1) (whole i) (c .three2 .ensures ∙ other-trio (start i .pre .0 .0) (start i .args .edge .now) _ (i .before .loop .inv .first) (whole i)), start i .pre .0 .0 .small .vertices)
 
 add-put : tie.Need-add-put Inv-loop μ-loop
 add-put c = let i = c .before .before .before .before .before in omega (arith, start i .pre .0 .0 .room, start i .good)

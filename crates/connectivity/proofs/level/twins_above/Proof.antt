@@ -8,6 +8,7 @@ use native.Mathlib.Omega.{arith}
 use Rattle.laws.specs.Parts.{part}
 use Rattle.halfedges.specs.Cage.{NEXT}
 use Rattle.connectivity.specs.NextLevel.{newTwin}
+use Rattle.connectivity.specs.InPlace.{most-small}
 use Rattle.connectivity.proofs.Triangles.{Filled, housed-as, filled-start, filled-long, filled-fits, twins-on, twins-done}
 use Rattle.connectivity.proofs.Descent.{Cornered, way-round, quarter-whole, corner-there, corner-on, middle-there}
 use Rattle.connectivity.proofs.level.twins_above.Statement.{statement}
@@ -37,7 +38,7 @@ module _ (s : tie.Start Inv-loop μ-loop Inv-loop2 μ-loop2) where
   four : s .args .level .halfedges ≡ 4 * quarter
   four = quarter-whole (s .pre .0) (s .pre .2) .1
 
-  few : quarter ≤ 1048576
+  few : quarter ≤ most-small / 4
   few = omega (arith, s .pre .0 .small .halfedges)
 
 -- a turn of the first loop: its three corner triangles
