@@ -8,6 +8,7 @@ pub mod bare;
 pub mod cage;
 pub mod check;
 pub mod corners;
+pub mod counter;
 pub mod counts;
 pub mod draw;
 mod fan;

@@ -9,10 +9,11 @@ use crate::refusal::Refusal;
 
 /// What the level lister prints for these bytes.
 pub fn list_levels(file: &[u8]) -> String {
-    level_lines(file).unwrap_or_else(|refusal| format!("{refusal}\n"))
+    level_lines(file).unwrap_or_else(|refusal| refusal.line())
 }
 
-fn level_lines(file: &[u8]) -> Result<String, Refusal> {
+/// The lines of an accepted cage's levels, or the refusal.
+pub fn level_lines(file: &[u8]) -> Result<String, Refusal> {
     let checked = check(&read_cage(file)?)?;
     let counts = count_question(
         checked.halfedges,

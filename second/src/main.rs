@@ -1,9 +1,11 @@
 //! The command line of the second program. The level lister of document 01
-//! is `second list`; the other commands are for comparing and trying.
+//! is `second list`, the count question `second counts`; the other commands
+//! are for comparing and trying.
 
 use std::io::{self, Read, Write};
 use std::process::ExitCode;
 
+use second::counter::count_levels;
 use second::file::write_cage_file;
 use second::lister::list_levels;
 use second::questions::check::check_numbers;
@@ -12,7 +14,7 @@ use second::suite::{cage_named, suite, SuiteCage};
 
 const USAGE: &str = "usage: second questions \
     counts|corners|check|check-large|tables|refining|refining-digests \
-    | second answers | second list | second cage NAME | second suite";
+    | second answers | second list | second counts | second cage NAME | second suite";
 
 fn main() -> ExitCode {
     let words: Option<Vec<String>> = std::env::args_os()
@@ -63,6 +65,7 @@ fn output(words: &[&str]) -> Result<Vec<u8>, Trouble> {
         ["questions", "refining-digests"] => refining::digest_questions(),
         ["answers"] => answers_to_input()?,
         ["list"] => list_levels(&standard_input()?),
+        ["counts"] => counts_of(&standard_input()?)?,
         ["suite"] => suite().iter().map(suite_line).collect(),
         ["cage", name] => return cage_file(name),
         _ => return Err(Trouble::Usage),
@@ -80,6 +83,13 @@ fn standard_input() -> Result<Vec<u8>, Trouble> {
     let mut bytes = Vec::new();
     io::stdin().read_to_end(&mut bytes)?;
     Ok(bytes)
+}
+
+/// The lines for the count question that this text is.
+fn counts_of(question: &[u8]) -> Result<String, Trouble> {
+    let no_question = || Trouble::Message("this is no count question".into());
+    let counted = count_levels(question).ok_or_else(no_question)?;
+    Ok(counted.unwrap_or_else(|refusal| refusal.line()))
 }
 
 /// The answers to the questions on standard input.

@@ -30,6 +30,11 @@ impl Refusal {
             place: place as u64,
         }
     }
+
+    /// The line that a program prints for it.
+    pub fn line(&self) -> String {
+        format!("{self}\n")
+    }
 }
 
 /// As the level lister prints it.

@@ -55,6 +55,34 @@ fn a_named_cage_is_listed() {
 }
 
 #[test]
+fn a_count_question_is_answered() {
+    // Document 01's P8.
+    let counted = printed(&["counts"], b"12 6 4 2\n");
+    let lines = "0 12 6 4 4\n1 48 24 16 10\n2 192 96 64 34\nroom 252 48\n";
+    assert_eq!(counted, lines);
+    assert_eq!(printed(&["counts"], b"12 6 4 7\n"), "refused 2 0\n");
+    assert_eq!(printed(&["counts"], b"12 6 0 007\n"), "refused 1 0\n");
+    let no_questions: [&[u8]; 13] = [
+        b"",
+        b"12 6 4 2",
+        b"12 6 4\n",
+        b"12 6 4 2 \n",
+        b" 12 6 4 2\n",
+        b"12  6 4 2\n",
+        b"12 6 4 2\n\n",
+        b"12 6 4 2 0\n",
+        b"12 6 4 +2\n",
+        b"12 6 4 2\r\n",
+        b"12 6 4 18446744073709551616\n",
+        b"12 6 4 000000000000000000002\n",
+        b"12 6 4 \xFF\n",
+    ];
+    for text in no_questions {
+        assert_eq!(run(&["counts"], text).status.code(), Some(1), "{text:?}");
+    }
+}
+
+#[test]
 fn a_cage_without_a_file_is_told() {
     let refused = run(&["cage", "bow-tie"], &[]);
     assert_eq!(refused.status.code(), Some(1));
