@@ -1,4 +1,4 @@
--- The text of each outcome, by what the cage check and reading answered. Assumes nothing.
+-- The reply of each outcome, by what the cage check and reading answered. Assumes nothing.
 --     cage-refused, cage-listed     a cage that is refused, and one that is accepted, whose counts are small (`small`, `few-borders`)
 --     file-refused, file-listed     a file that is refused, and one that reads, whose counts keep the limits (`H-kept`, `V-kept`)
 use Prim.Native.Nat.{ℕ, _*_, _≤_}
@@ -30,8 +30,10 @@ use Rattle.cagefile.proofs.Fits.{Fits}
 use Rattle.cagefile.proofs.Accepted.{accepted-fits}
 use Rattle.cagefile.proofs.Outcomes.{allRead, read-done, twins-length, verts-length, edges-length, points-length}
 use Rattle.cagefile.proofs.Verdict.{read-sound}
-use Rattle.lister.specs.Listing.{levelBorders, roomLine, levelLines, refusedLine, cageListing, roomy, roomyPoints, listing}
-use Rattle.lister.specs.Put.{doubled}
+use Rattle.text.specs.Lines.{roomLine}
+use Rattle.text.specs.Replies.{answered, refused}
+use Rattle.lister.specs.Listing.{levelBorders, levelLines, cageListing, roomy, roomyPoints, listing}
+use Rattle.lister.specs.Doubling.{doubled}
 use Rattle.lister.proofs.Lines.{lines-alike}
 
 -- ---- a cage
@@ -41,7 +43,7 @@ abbrev pub counts : Checked → HalfedgeTable
 counts r = record { halfedges = r .halfedges; edges = r .edges; vertices = r .vertices }
 
 module _ (c : Tables) (points : List ℤ) (r : Checked) (e : checked r ≡ checkCage c points) where
-  pub cage-refused : told (r .answer) .number ≢ 0 → refusedLine (told (r .answer)) ≡ cageListing c points
+  pub cage-refused : told (r .answer) .number ≢ 0 → refused (told (r .answer)) ≡ cageListing c points
   unfolding cageListing
   cage-refused n =
       let v : told (r .answer) ≡ checkCage c points .verdict = ap (λ s. s .verdict) e in
@@ -52,17 +54,17 @@ module _ (c : Tables) (points : List ℤ) (r : Checked) (e : checked r ≡ check
     unfolding checkCage said
     done = sym (ap (λ s. s .verdict) e) ∙ zero-done (r .answer) z
 
-    answered : checked r ≡ acceptedCheck (c .twin) (vertices points)
+    accepted-check : checked r ≡ acceptedCheck (c .twin) (vertices points)
     unfolding checkCage said
-    answered = e ∙ rw done
+    accepted-check = e ∙ rw done
 
     counted : counts r ≡ countsOf c (vertices points)
     unfolding returned
-    counted = λ i. record { halfedges = getD (answered i .values) 0 0; edges = getD (answered i .values) 1 0; vertices = getD (answered i .values) 3 0 }
+    counted = λ i. record { halfedges = getD (accepted-check i .values) 0 0; edges = getD (accepted-check i .values) 1 0; vertices = getD (accepted-check i .values) 3 0 }
 
     bordered : r .borders ≡ B (c .twin)
     unfolding returned
-    bordered = ap (λ s. getD (s .values) 4 0) answered
+    bordered = ap (λ s. getD (s .values) 4 0) accepted-check
 
     fits : Fits c points
     fits = accepted-fits c points done
@@ -85,12 +87,12 @@ module _ (c : Tables) (points : List ℤ) (r : Checked) (e : checked r ≡ check
     unfolding levelBorders
     doubled-borders k l = ap (λ b. doubled b k) bordered ∙ sym (accepted c (vertices points) 0 tables-done k l .border-edges)
 
-    pub cage-listed : (l : Levels) → l ≡ levels (counts r) most-depth → levelLines l (doubled (r .borders)) ≡ cageListing c points
+    pub cage-listed : (l : Levels) → l ≡ levels (counts r) most-depth → answered (levelLines l (doubled (r .borders))) ≡ cageListing c points
     unfolding cageListing checkCage said levelLines
     cage-listed l q =
         let bs = levelBorders (countsOf c (vertices points)) c in
-        ap (λ t. t ++ roomLine l) (lines-alike l (doubled (r .borders)) bs 7 (λ k h. doubled-borders k (omega arith)))
-        ∙ ap (λ m. levelLines m bs) (q ∙ ap (λ t. levels t most-depth) counted)
+        ap (λ t. answered (t ++ roomLine (l .«halfedge_room») (l .«vertex_room»))) (lines-alike l (doubled (r .borders)) bs 7 (λ k h. doubled-borders k (omega arith)))
+        ∙ ap (λ m. answered (levelLines m bs)) (q ∙ ap (λ t. levels t most-depth) counted)
         ∙ rw done
 
 -- ---- a file
@@ -121,7 +123,7 @@ module _ (f : List ℕ) (lent : Tables) (lentPoints : List ℤ) (room : Roomy le
   unfolding readFile said
   verdict = ap (λ s. s .verdict) e
 
-  pub file-refused : told (r .answer) .number ≢ 0 → refusedLine (told (r .answer)) ≡ listing f
+  pub file-refused : told (r .answer) .number ≢ 0 → refused (told (r .answer)) ≡ listing f
   unfolding listing
   file-refused n =
       let v = verdict ∙ roomy-verdict f lent lentPoints room in

@@ -3,12 +3,9 @@ ghost use Prim.Native.Nat.{_<_};
 ghost use lib.ListN.{length};
 ghost use Rattle.lister.specs.Listing.{longest};
 
-mod input;
 mod listing;
-mod text;
 
-use libc::STDERR_FILENO;
-use libc::STDOUT_FILENO;
+use text::streams;
 
 fn main() {
     // one byte more than the longest file that reads
@@ -17,27 +14,22 @@ fn main() {
 }
 
 // Lists what standard input holds, as much as the buffer takes: past the longest file that reads more bytes change nothing
-// (`front-listed`). What fails is said on standard error, since a program cannot set its exit status.
+// (`front-listed`).
 fn list_input(file: &mut [u8])
     requires { ⌜ longest < length (now file) ⌝ }
 {
-    let read = input::read(&mut *file);
+    let read = streams::read(&mut *file);
     if read.failed {
-        io::write_all(STDERR_FILENO, b"lister: standard input cannot be read\n");
         return;
     }
     let length = read.length;
-    if !print(&file[..length]) {
-        io::write_all(
-            STDERR_FILENO,
-            b"lister: standard output cannot be written\n",
-        );
-    }
+    list(&file[..length]);
 }
 
-// Prints the text for a file's bytes, and says whether all of it was written.
-fn print(file: &[u8]) -> bool {
+// Says the listing of a file's bytes.
+fn list(file: &[u8]) {
     let mut out = [0u8; 1024];
-    let length = listing::list(file, &mut out);
-    io::write_all(STDOUT_FILENO, &out[..length])
+    let written = listing::list(file, &mut out);
+    let length = written.length;
+    streams::say(&out[..length], written.status);
 }

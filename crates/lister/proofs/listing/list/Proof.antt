@@ -1,10 +1,7 @@
 -- The tables have room for any cage.
 use borrow.Author.Needs.{needs}
-use Prim.Native.Nat.{_≤_}
-use mathlib.Core.Path.{sym}
 use native.Mathlib.Omega.{arith}
-use lib.ListN.{length}
-use lib.Seq.{length-take-le}
+use Rattle.text.proofs.Replying.{replied-whole}
 use Rattle.lister.proofs.listing.list.Statement.{statement}
 use Rattle.lister.proofs.listing.list.Tie as tie
 
@@ -24,10 +21,7 @@ list-file-requires : tie.Need-list-file-requires
 list-file-requires c κs = search needs
 
 returns : tie.Need-returns
-returns c =
-    let l = c .before .before .before .before in
-    let within : l .list-file .result ≤ length (l .list-file .last .1 .1 .1 .1 .1 .0) = omega arith in
-    ((l .list-file .ensures .bytes, omega arith), (within, sym (length-take-le _ _ within)))
+returns c = replied-whole (omega arith) (c .before .before .before .before .list-file .ensures)
 
 pub list-spec : {M : Type 1} → statement M
 list-spec =

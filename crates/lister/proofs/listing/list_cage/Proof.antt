@@ -1,7 +1,7 @@
 -- An accepted cage is listed by its counts, any other by its refusal.
 use borrow.Author.Needs.{needs}
 use Prim.Native.Nat.{_≤_}
-use mathlib.Core.Path.{_≡_, sym, _∙_}
+use mathlib.Core.Path.{_≡_, refl, sym, _∙_}
 use native.Mathlib.Omega.{arith}
 use Rattle.halfedges.specs.declared.table.Levels.{Levels}
 use Rattle.halfedges.specs.Cage.{most-halfedges, most-depth}
@@ -9,8 +9,10 @@ use Rattle.halfedges.specs.Refusals.{told}
 use Rattle.halfedges.specs.Counts.{AtMost, levels}
 use Rattle.connectivity.specs.declared.check.Checked.{Checked}
 use Rattle.connectivity.specs.Tables.{Tables, tables}
+use Rattle.text.specs.Replies.{answered}
+use Rattle.text.proofs.Replying.{replied-within, replied-as}
 use Rattle.lister.specs.Listing.{levelLines, cageListing}
-use Rattle.lister.specs.Put.{doubled}
+use Rattle.lister.specs.Doubling.{doubled}
 use Rattle.lister.proofs.Outcomes.{counts, cage-refused, small, few-borders, cage-listed}
 use Rattle.lister.proofs.listing.list_cage.Statement.{statement}
 use Rattle.lister.proofs.listing.list_cage.Tie as tie
@@ -35,7 +37,7 @@ module _ (i : tie.Else1) where
   few : found .borders ≤ most-halfedges
   few = few-borders cage (start .args .points .now) found (i .before .before .check-cage .ensures) passed
 
-  listed : (l : Levels) → l ≡ levels (counts found) most-depth → levelLines l (doubled (found .borders)) ≡ cageListing cage (start .args .points .now)
+  listed : (l : Levels) → l ≡ levels (counts found) most-depth → answered (levelLines l (doubled (found .borders))) ≡ cageListing cage (start .args .points .now)
   listed = cage-listed cage (start .args .points .now) found (i .before .before .check-cage .ensures) passed
 
 check-cage-requires : tie.Need-check-cage-requires
@@ -54,7 +56,7 @@ returns : tie.Need-returns
 returns c =
     let p = c .before .before in
     let n = p .before .before .before in
-    rw (cage-refused _ _ (n .before .check-cage .result) (n .before .check-cage .ensures) (λ z. p .before .before .if1 .taken (n .number .ensures ∙ z))) at (p .put-refusal .ensures)
+    replied-as (cage-refused _ _ (n .before .check-cage .result) (n .before .check-cage .ensures) (λ z. p .before .before .if1 .taken (n .number .ensures ∙ z))) (replied-within (omega arith) (p .put-refusal .ensures))
 
 levels-requires : tie.Need-levels-requires
 levels-requires c κs = (few-counts (c .before), omega arith)
@@ -68,7 +70,7 @@ same-length-2 c = search needs
 returns-2 : tie.Need-returns-2
 returns-2 c =
     let p = c .before .before in
-    rw (listed (p .before .before .before) (p .before .levels .result) (p .before .levels .ensures)) at (p .put-levels .ensures)
+    replied-as (listed (p .before .before .before) (p .before .levels .result) (p .before .levels .ensures)) (record { put = p .put-levels .ensures; status = refl })
 
 pub list-cage-spec : {M : Type 1} → statement M
 list-cage-spec =

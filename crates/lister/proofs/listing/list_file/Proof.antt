@@ -10,6 +10,7 @@ use Rattle.halfedges.specs.Cage.{most-halfedges, most-vertices}
 use Rattle.halfedges.specs.Refusals.{told}
 use Rattle.connectivity.specs.Tables.{Tables, tables}
 use Rattle.cagefile.specs.declared.reading.Reading.{Reading}
+use Rattle.text.proofs.Replying.{replied-within, replied-as}
 use Rattle.lister.proofs.Outcomes.{Roomy, file-refused, H-kept, V-kept, file-listed}
 use Rattle.lister.proofs.listing.list_file.Statement.{statement}
 use Rattle.lister.proofs.listing.list_file.Tie as tie
@@ -80,7 +81,7 @@ returns c =
     let p = c .before .before in
     let t = p .before .before in
     let n = t .before in
-    rw (file-refused (file n) (lent n) (points n) (room n) (found n) (reader n .read .ensures .0) (λ z. t .if1 .taken (n .number .ensures ∙ z))) at (p .put-refusal .ensures)
+    replied-as (file-refused (file n) (lent n) (points n) (room n) (found n) (reader n .read .ensures .0) (λ z. t .if1 .taken (n .number .ensures ∙ z))) (replied-within (omega arith) (p .put-refusal .ensures))
 
 mul-coordinates : tie.Need-mul-coordinates
 mul-coordinates c = omega (arith, few-vertices (c .before))
@@ -134,7 +135,7 @@ returns-2 c =
     let n = i .before in
     let left = reader n .read .last .1 in
     let kept = reader n .read .ensures in
-    rw (file-listed (file n) (lent n) (points n) (room n) (found n) (kept .0) (passed i) (tables (left .0) (left .1 .0) (left .1 .1 .0)) (left .1 .1 .1 .0) (kept .1) (kept .2) (kept .3) (kept .4)) at (p .list-cage .ensures)
+    replied-as (file-listed (file n) (lent n) (points n) (room n) (found n) (kept .0) (passed i) (tables (left .0) (left .1 .0) (left .1 .1 .0)) (left .1 .1 .1 .0) (kept .1) (kept .2) (kept .3) (kept .4)) (p .list-cage .ensures)
 
 pub list-file-spec : {M : Type 1} → statement M
 list-file-spec =

@@ -5,10 +5,11 @@ use mathlib.Core.Path.{_≡_, refl, _∙_}
 use native.Mathlib.Omega.{arith}
 use lib.ListN.{length}
 use Rattle.laws.specs.Below.{endToEnd}
+use Rattle.text.specs.Put.{Put}
+use Rattle.text.proofs.Texts.{put-none, put-next}
 use Rattle.lister.specs.Listing.{levelLine}
-use Rattle.lister.specs.Put.{Put, doubled}
-use Rattle.lister.proofs.Lines.{few-doubled, doubled-next, lines-next}
-use Rattle.lister.proofs.Texts.{put-none}
+use Rattle.lister.specs.Doubling.{doubled}
+use Rattle.lister.proofs.Lines.{few-doubled, doubled-next}
 use Rattle.lister.proofs.listing.put_lines.Statement.{statement}
 use Rattle.lister.proofs.listing.put_lines.Tie as tie
 
@@ -60,7 +61,7 @@ loop-again c =
     let p = c .before .before in
     let l = p .before .before .before .before .before .before in
     let s = l .before .before .args in
-    (omega arith, doubled-next (s .borders) (l .loop .level) (l .loop .level-borders) (l .loop .inv .1), p .put-level .kept .0 ∙ l .loop .inv .2, lines-next (s .t2) (doubled (s .borders)) (l .loop .level) (l .loop .level-borders) _ _ _ _ _ (l .loop .inv .1) (l .loop .inv .3) (p .put-level .ensures))
+    (omega arith, doubled-next (s .borders) (l .loop .level) (l .loop .level-borders) (l .loop .inv .1), p .put-level .kept .0 ∙ l .loop .inv .2, put-next (levelLine (s .t2) (doubled (s .borders))) 126 (l .loop .level) (l .loop .inv .3) (rw (l .loop .inv .1) at (p .put-level .ensures)))
 
 same-length : tie.Need-same-length Inv-loop μ-loop
 same-length c = search needs

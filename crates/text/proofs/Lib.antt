@@ -1,0 +1,5 @@
+pub mod Decimal
+pub mod Texts
+pub mod Words
+pub mod Replying
+pub mod Numerals

@@ -1,0 +1,72 @@
+// Lines of words and numbers, written one after another into a text.
+ghost use mathlib.Core.List.{[], _∷_, _++_};
+ghost use Prim.Native.Nat.{_+_, _≤_};
+ghost use lib.ListN.{length};
+ghost use Rattle.text.specs.Lines.{decimal, ended, line, countWords, roomLine};
+ghost use Rattle.text.specs.Put.{Put};
+
+// What stands between the words of a line, and after the last.
+pub const SPACE: u8 = 32;
+
+pub const NEWLINE: u8 = 10;
+
+// A word, and what stands after it.
+pub fn put_word(out: &mut [u8], at: usize, word: &[u8], after: u8) -> usize
+    requires { ⌜ at + length (now word) + 1 ≤ length (now out) ⌝ }
+    ensures { λ r. ⌜ Put (now (out .entry)) at (length (now (word .entry)) + 1) (now (word .entry) ++ (after ∷ [])) (now (out .exit)) r ⌝ }
+{
+    let mut i = 0;
+    while i < word.len() {
+        out[at + i] = word[i];
+        i += 1;
+    }
+    out[at + word.len()] = after;
+    at + word.len() + 1
+}
+
+// A number's decimal digits, and what stands after them.
+pub fn put_number(out: &mut [u8], at: usize, number: usize, after: u8) -> usize
+    requires { ⌜ at + 21 ≤ length (now out) ⌝ }
+    ensures { λ r. ⌜ Put (now (out .entry)) at 21 (decimal number ++ (after ∷ [])) (now (out .exit)) r ⌝ }
+{
+    let mut digits = [0u8; 20];
+    let length = io::decimal(number as u64, &mut digits);
+    put_word(&mut *out, at, &digits[..length], after)
+}
+
+// The last two numbers of some words, and what stands after them.
+pub fn put_pair(out: &mut [u8], at: usize, one: usize, other: usize, after: u8) -> usize
+    requires { ⌜ at + 42 ≤ length (now out) ⌝ }
+    ensures { λ r. ⌜ Put (now (out .entry)) at 42 (ended after (decimal one ∷ decimal other ∷ [])) (now (out .exit)) r ⌝ }
+{
+    let next = put_number(&mut *out, at, one, SPACE);
+    put_number(&mut *out, next, other, after)
+}
+
+// A level's number, H, E, F and V, and what stands after them.
+pub fn put_counts(
+    out: &mut [u8],
+    at: usize,
+    level: usize,
+    halfedges: usize,
+    edges: usize,
+    vertices: usize,
+    after: u8,
+) -> usize
+    requires { ⌜ at + 105 ≤ length (now out) ⌝ }
+    ensures { λ r. ⌜ Put (now (out .entry)) at 105 (ended after (countWords level halfedges edges vertices)) (now (out .exit)) r ⌝ }
+{
+    let level_end = put_number(&mut *out, at, level, SPACE);
+    let halfedges_end = put_number(&mut *out, level_end, halfedges, SPACE);
+    let edges_end = put_number(&mut *out, halfedges_end, edges, SPACE);
+    put_pair(&mut *out, edges_end, halfedges / 3, vertices, after)
+}
+
+// The line of the room.
+pub fn put_room(out: &mut [u8], at: usize, halfedges: usize, vertices: usize) -> usize
+    requires { ⌜ at + 47 ≤ length (now out) ⌝ }
+    ensures { λ r. ⌜ Put (now (out .entry)) at 47 (roomLine halfedges vertices) (now (out .exit)) r ⌝ }
+{
+    let next = put_word(&mut *out, at, b"room", SPACE);
+    put_pair(&mut *out, next, halfedges, vertices, NEWLINE)
+}

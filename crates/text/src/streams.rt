@@ -1,0 +1,79 @@
+// The standard streams, and the status that a program ends with.
+ghost use Rattle.io.specs.Counts.{Counts};
+use crate::replies;
+use libc::STDERR_FILENO;
+use libc::STDIN_FILENO;
+use libc::STDOUT_FILENO;
+
+// A program cannot set its exit status. It writes the status as one digit to this descriptor, from which the command that started it
+// takes it.
+const STATUS_FILENO: i32 = 3;
+
+// How many bytes stand at the buffer's front, and whether a read failed.
+pub struct Input {
+    pub length: usize,
+    pub failed: bool,
+}
+
+// Reads standard input as far as the buffer takes it, and tells a read that fails.
+pub fn read(buffer: &mut [u8]) -> Input
+    ensures { λ r. ⌜ Counts (r .length) (now (buffer .exit)) ⌝ }
+{
+    let input = fill(&mut *buffer);
+    if input.failed {
+        fail(b"ryebadger: standard input cannot be read\n");
+    }
+    input
+}
+
+// Reads until the buffer is full, the input ends or a read fails. A pipe may hand over a part at a time.
+fn fill(buffer: &mut [u8]) -> Input
+    ensures { λ r. ⌜ Counts (r .length) (now (buffer .exit)) ⌝ }
+{
+    let mut done = 0;
+    while done < buffer.len() {
+        let got = libc::read(STDIN_FILENO, &mut buffer[done..]);
+        if got < 0 {
+            return Input {
+                length: done,
+                failed: true,
+            };
+        }
+        let more = io::count(got, &buffer[done..]);
+        if more == 0 {
+            return Input {
+                length: done,
+                failed: false,
+            };
+        }
+        done += more;
+    }
+    Input {
+        length: done,
+        failed: false,
+    }
+}
+
+// Says a reply: an answer and a refusal on standard output, what a question looks like on standard error.
+pub fn say(text: &[u8], status: usize) {
+    if status == replies::MISUSED {
+        io::write_all(STDERR_FILENO, text);
+        end(status);
+        return;
+    }
+    if !io::write_all(STDOUT_FILENO, text) {
+        fail(b"ryebadger: standard output cannot be written\n");
+        return;
+    }
+    end(status);
+}
+
+// Says which stream failed.
+fn fail(message: &[u8]) {
+    io::write_all(STDERR_FILENO, message);
+    end(replies::FAILED);
+}
+
+fn end(status: usize) {
+    io::print_decimal(STATUS_FILENO, status as u64);
+}
