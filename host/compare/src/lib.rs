@@ -10,6 +10,7 @@
 mod asked;
 mod files;
 mod outcome;
+mod process;
 mod question;
 mod suite;
 mod vertices;
@@ -17,6 +18,7 @@ mod vertices;
 pub use asked::{handed, Archive, Operations, SafeCrate, SecondProgram};
 pub use files::{file_of, heads, lengths_of};
 pub use outcome::{first_difference, Difference, Outcome};
+pub use process::{repository, run};
 pub use question::Question;
 pub use suite::{accepted, named, refused, room_at};
 pub use vertices::{vertices_of, Vertex};

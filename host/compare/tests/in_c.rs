@@ -1,20 +1,15 @@
 //! The C header and the C example, compiled without a warning; the example's
 //! lines are the second program's.
 
-use std::io::Write;
 use std::path::{Path, PathBuf};
-use std::process::{Command, Output, Stdio};
+use std::process::{Command, Output};
 use std::sync::LazyLock;
 
-use compare::{file_of, named};
+use compare::{file_of, named, repository, run};
 use second::cage::{COORDINATE_LIMIT, DEPTH_LIMIT, HALFEDGE_LIMIT, MARKER, VERTEX_LIMIT};
 use second::lister::list_levels;
 
 const STRICT: [&str; 4] = ["-Wall", "-Wextra", "-Wpedantic", "-Werror"];
-
-fn repository() -> PathBuf {
-    Path::new(env!("CARGO_MANIFEST_DIR")).join("../..")
-}
 
 /// The compiler that the environment variable names, or else this one.
 fn compiler(variable: &str, name: &str) -> Command {
@@ -24,16 +19,6 @@ fn compiler(variable: &str, name: &str) -> Command {
         .arg("-I")
         .arg(repository().join("host"));
     command
-}
-
-/// Runs a command to its end with this standard input.
-fn run(command: &mut Command, input: &[u8]) -> Output {
-    let piped = command.stdin(Stdio::piped()).stdout(Stdio::piped());
-    let mut child = piped.stderr(Stdio::piped()).spawn().expect("started");
-    let mut stdin = child.stdin.take().expect("standard input");
-    stdin.write_all(input).expect("written");
-    drop(stdin);
-    child.wait_with_output().expect("ended")
 }
 
 fn assert_compiles(command: &mut Command, source: &[u8]) {

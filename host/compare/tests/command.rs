@@ -1,0 +1,301 @@
+//! The command `ryebadger`: its text is the second program's, on every input;
+//! its statuses are those of the README, each with at most one line on
+//! standard error.
+
+use std::fs;
+use std::path::{Path, PathBuf};
+use std::process::{Command, Output};
+
+use compare::{accepted, file_of, named, repository, run};
+use second::counter::count_levels;
+use second::lister::level_lines;
+use second::questions::counts;
+use second::refusal::Refusal;
+
+/// A folder of this test's own, empty, elsewhere than the repository.
+fn folder(name: &str) -> PathBuf {
+    let folder = Path::new(env!("CARGO_TARGET_TMPDIR")).join(name);
+    let _ = fs::remove_dir_all(&folder);
+    fs::create_dir_all(&folder).expect("made");
+    folder
+}
+
+fn ryebadger() -> Command {
+    let mut command = Command::new(repository().join("ryebadger"));
+    command.current_dir(env!("CARGO_TARGET_TMPDIR"));
+    command
+}
+
+/// The status, and what was said on the two streams.
+fn told(output: &Output) -> (i32, String, String) {
+    let text = |bytes: &[u8]| String::from_utf8(bytes.to_vec()).expect("text");
+    let status = output.status.code().expect("ended by itself");
+    (status, text(&output.stdout), text(&output.stderr))
+}
+
+/// Nothing is said but one line on standard error, which has this in it.
+fn assert_fails(output: &Output, status: i32, part: &str) {
+    let (ended, text, said) = told(output);
+    assert_eq!((ended, text.as_str()), (status, ""), "{said}");
+    assert_eq!(said.lines().count(), 1, "{said}");
+    assert!(said.starts_with("ryebadger: ") && said.contains(part), "{said}");
+}
+
+/// What is printed is the second program's: lines, or a refusal with status 1.
+fn assert_answers(output: &Output, judged: Result<String, Refusal>, name: &str) {
+    let status = i32::from(judged.is_err());
+    let text = judged.unwrap_or_else(|refusal| refusal.line());
+    assert_eq!(told(output), (status, text, String::new()), "{name}");
+}
+
+fn assert_listed(file: &[u8], name: &str) {
+    let output = run(ryebadger().arg("list"), file);
+    assert_answers(&output, level_lines(file), name);
+}
+
+fn assert_counted(words: &[&str]) {
+    let output = run(ryebadger().arg("counts").args(words), b"");
+    match count_levels(format!("{}\n", words.join(" ")).as_bytes()) {
+        Some(judged) => assert_answers(&output, judged, &words.join(" ")),
+        None => assert_fails(&output, 2, "H E V DEPTH"),
+    }
+}
+
+/// A shell's words with the command as `$0`, in a folder of its own with the
+/// file of the triangle.
+fn in_shell(script: &str, name: &str) -> Output {
+    let folder = folder(name);
+    fs::write(folder.join("triangle.cage"), file_of(&named("triangle"))).expect("written");
+    let mut shell = Command::new("sh");
+    shell.arg("-c").arg(script).arg(repository().join("ryebadger"));
+    run(shell.current_dir(folder), b"")
+}
+
+#[test]
+fn accepted_cages_are_listed() {
+    let entries = accepted();
+    // One of them has as many halfedges as a cage may have.
+    let largest = entries.iter().max_by_key(|entry| entry.cage.twin.len());
+    let largest = largest.expect("a suite");
+    assert_eq!(largest.cage.twin.len(), 3_072);
+    assert_listed(&file_of(&largest.cage), &largest.name);
+    for entry in entries.iter().step_by(8) {
+        assert_listed(&file_of(&entry.cage), &entry.name);
+    }
+}
+
+#[test]
+fn refused_files_are_told() {
+    let triangle = file_of(&named("triangle"));
+    for length in [0, 1, 8, 9, 38, 77] {
+        assert_listed(&triangle[..length], "cut");
+    }
+    assert_listed(&[&triangle[..], &[0]].concat(), "longer");
+    assert_listed(&[&triangle[..], &[0; 100_000]].concat(), "much longer");
+    // A tag, H, TWIN(0), VERT(0), EDGE(0), and a coordinate's last byte.
+    for (offset, byte) in [(9, 0x21), (5, 4), (12, 0), (21, 7), (30, 9), (42, 0x7F)] {
+        let mut changed = triangle.clone();
+        changed[offset] = byte;
+        assert_listed(&changed, "changed");
+    }
+}
+
+#[test]
+fn count_questions_are_answered() {
+    for line in counts::questions().lines().step_by(24) {
+        let words: Vec<&str> = line.split(' ').skip(1).collect();
+        assert_counted(&words);
+    }
+    for words in [
+        ["12", "6", "4", "2"],
+        ["00000000000000000012", "6", "4", "2"],
+        ["3072", "1536", "2048", "6"],
+        ["18446744073709551615", "18446744073709551615", "1", "0"],
+    ] {
+        assert_counted(&words);
+    }
+}
+
+#[test]
+fn what_is_no_count_question_is_told() {
+    let far = "7".repeat(100_000);
+    for words in [
+        ["12", "6", "4", "18446744073709551616"],
+        ["12", "6", "4", "99999999999999999999"],
+        ["4294967308", "6", "4", "100000000000000000000"],
+        ["000000000000000000012", "6", "4", "2"],
+        ["12", "6", "4", &far],
+        [&far, "6", "4", "2"],
+        ["12", "6", "4", ""],
+        ["", "6", "4", "2"],
+        ["12", "6", "4", "-1"],
+        ["12", "6", "4", "+2"],
+        ["12", "6", "4", "0x2"],
+        ["12", "6", "4", " 2"],
+        ["12", "6", "4 2", "2"],
+        ["12", "6", "4", "2\n"],
+        ["12", "6", "4", "\u{0662}"],
+        ["-e", "%s", "\\n", "*"],
+    ] {
+        assert_counted(&words);
+    }
+}
+
+#[test]
+fn other_words_are_told() {
+    let wrong: [(&[&str], &str); 8] = [
+        (&[], "no command"),
+        (&["corners", "0", "1", "2", "3"], "corners"),
+        (&["lists"], "lists"),
+        (&[""], "no command"),
+        (&["counts"], "H, E, V and DEPTH"),
+        (&["counts", "12", "6", "4"], "H, E, V and DEPTH"),
+        (&["counts", "12", "6", "4", "2", "0"], "H, E, V and DEPTH"),
+        (&["list", "one", "two"], "one file"),
+    ];
+    for (words, part) in wrong {
+        assert_fails(&run(ryebadger().args(words), b""), 2, part);
+    }
+}
+
+#[test]
+fn help_is_an_answer() {
+    let wanted: [&[&str]; 5] = [
+        &["--help"],
+        &["-h"],
+        &["help"],
+        &["list", "--help"],
+        &["counts", "--help"],
+    ];
+    for words in wanted {
+        let (status, text, said) = told(&run(ryebadger().args(words), b""));
+        assert_eq!((status, said.as_str()), (0, ""));
+        assert!(text.starts_with("usage: ryebadger list [FILE]\n"));
+    }
+    assert_fails(&in_shell("\"$0\" --help >/dev/full", "help-full"), 3, "output");
+    assert_fails(&in_shell("\"$0\" --help >&-", "help-closed"), 3, "output");
+}
+
+/// The reader closes its end at once, and stays until the command has ended.
+const PIPE_THAT_NOBODY_READS: &str = "
+    { \"$0\" list triangle.cage; echo $? >status; } | {
+        exec <&-
+        while ! [ -s status ]; do sleep 0.1; done
+    }
+    exit $(cat status)";
+
+#[test]
+fn a_stream_that_fails_is_told() {
+    let failing = [
+        ("\"$0\" list triangle.cage >/dev/full", "output cannot be written"),
+        ("\"$0\" counts 12 6 4 2 >/dev/full", "output cannot be written"),
+        ("\"$0\" list triangle.cage >&-", "output is closed"),
+        ("\"$0\" counts 12 6 4 2 >&-", "output is closed"),
+        ("\"$0\" list <&-", "input is closed"),
+        ("\"$0\" list nowhere.cage", "nowhere.cage cannot be opened"),
+        ("\"$0\" list .", ". is a folder"),
+        ("\"$0\" list <.", "input cannot be read"),
+        (PIPE_THAT_NOBODY_READS, "output cannot be written"),
+    ];
+    for (at, (script, part)) in failing.into_iter().enumerate() {
+        assert_fails(&in_shell(script, &format!("failing-{at}")), 3, part);
+    }
+}
+
+#[test]
+fn a_file_is_listed_from_anywhere() {
+    let lines = level_lines(&file_of(&named("triangle"))).expect("accepted");
+    let listed = [
+        "\"$0\" list triangle.cage",
+        "\"$0\" list <triangle.cage",
+        "\"$0\" list - <triangle.cage",
+        "cat triangle.cage | \"$0\" list",
+        "cp triangle.cage 'a  b.cage' && \"$0\" list 'a  b.cage'",
+        "cp triangle.cage -- && \"$0\" list --",
+        "\"$0\" list triangle.cage 2>&-",
+        "ln -s \"$0\" 'by link' && './by link' list triangle.cage",
+        "cd / && \"$0\" list <\"$OLDPWD/triangle.cage\"",
+        "mkfifo pipe && { cat triangle.cage >pipe & \"$0\" list pipe; }",
+        "exec 3<triangle.cage 4<triangle.cage && \"$0\" list triangle.cage",
+    ];
+    for (at, script) in listed.into_iter().enumerate() {
+        let output = in_shell(script, &format!("listed-{at}"));
+        assert_answers(&output, Ok(lines.clone()), script);
+    }
+}
+
+/// A copy of what the command needs, at a path with spaces, and a toolchain in
+/// front of the real one whose `rt check` notes the crate, and makes of the
+/// counter the program that is proved already.
+fn copy_with_toolchain(name: &str, fails_at: &str) -> Command {
+    let copy = folder(name).join("a copy");
+    let toolchain = copy.join("toolchain");
+    let script = format!(
+        "set -e
+         cd \"$0\"
+         mkdir -p \"$1/host\" \"$1/toolchain/bin\"
+         cp -R crates crates.txt ryebadger \"$1\"
+         cp host/inputs host/build \"$1/host\"
+         cp target/bin/counter \"$1/toolchain\"
+         rt=${{RATTLE_HOME:+$RATTLE_HOME/bin/rt}}
+         rt=$(readlink -f \"${{rt:-$(command -v rt)}}\")
+         ln -s \"$(dirname \"$rt\")/../on\" \"$1/toolchain/on\"
+         cat >\"$1/toolchain/bin/rt\" <<'RT'
+#!/bin/sh
+[ \"$1\" != version ] || {{ echo of a test; exit 0; }}
+echo \"$2\" >>checked
+[ \"$2\" != '{fails_at}' ] || {{ echo first; echo rt: a fact fails; exit 1; }}
+mkdir -p target/bin
+[ \"$2\" != counter ] || cp toolchain/counter target/bin/counter
+RT
+         chmod +x \"$1/toolchain/bin/rt\""
+    );
+    let mut shell = Command::new("sh");
+    let made = run(shell.arg("-c").arg(script).arg(repository()).arg(&copy), b"");
+    assert_eq!(told(&made), (0, String::new(), String::new()));
+    let mut command = Command::new(copy.join("ryebadger"));
+    command.env("RATTLE_HOME", toolchain).args(["counts", "12", "6", "4", "2"]);
+    command
+}
+
+/// What is said while the counter is proved, up to this many crates.
+fn proving(crates: usize) -> String {
+    let names = ["laws", "halfedges", "text", "counter"];
+    let mut said = String::from("ryebadger: proving counter, once; this takes some minutes\n");
+    for (name, at) in names.iter().zip(1..).take(crates) {
+        said += &format!("ryebadger: proving {name}, {at} of {}\n", names.len());
+    }
+    said
+}
+
+#[test]
+fn the_first_run_proves_and_says_so() {
+    let mut command = copy_with_toolchain("first-run", "");
+    let lines = count_levels(b"12 6 4 2\n").expect("a question").expect("accepted");
+    let first = told(&run(&mut command, b""));
+    assert_eq!(first, (0, lines.clone(), proving(4)));
+    let second = told(&run(&mut command, b""));
+    assert_eq!(second, (0, lines.clone(), String::new()));
+    // A change is proved again.
+    let crates = Path::new(env!("CARGO_TARGET_TMPDIR")).join("first-run/a copy/crates");
+    fs::write(crates.join("laws/src/lib.rt"), "// changed").expect("written");
+    let third = told(&run(&mut command, b""));
+    assert_eq!(third, (0, lines, proving(4)));
+}
+
+#[test]
+fn what_is_not_proved_is_not_run() {
+    let mut command = copy_with_toolchain("not-proved", "halfedges");
+    let (status, text, said) = told(&run(&mut command, b""));
+    assert_eq!((status, text.as_str()), (3, ""));
+    let reason = "ryebadger: halfedges is not proved: rt: a fact fails\n";
+    assert_eq!(said, proving(2) + reason);
+}
+
+#[test]
+fn a_missing_toolchain_is_told() {
+    let mut command = ryebadger();
+    let nowhere = folder("no-toolchain");
+    let output = run(command.env("RATTLE_HOME", nowhere).args(["counts", "12", "6", "4", "2"]), b"");
+    assert_fails(&output, 3, "toolchain");
+}
