@@ -1,6 +1,6 @@
 -- Each outcome of checks 1 to 8, by the tests that lead to it: `cage-shape`, `cage-refused`, `cage-points`. A coordinate out of range,
 -- by its sign: `too-low`, `too-high`. Assumes nothing.
-use Prim.Native.Nat.{ℕ, suc, _%_}
+use Prim.Native.Nat.{ℕ, suc, _-_, _%_}
 use mathlib.Core.Path.{_≡_, refl, sym, _∙_}
 use mathlib.Core.Logic.{_≢_}
 use mathlib.Core.Bool.{true, false, true≢false}
@@ -40,10 +40,10 @@ module _ (c : Tables) (points : List ℤ) (depth : ℕ) where
           given-alone (length points) (outOfRange points) POINT (λ k. omega arith)
           ∙ rw checks-then (sym (first-passes (tableChecks c (vertices points) depth) _ v e z))
 
-pub too-low : (z : ℤ) → ltZ z (negsuc 1048575) ≡ true → true ≡ ltb most-coordinate (natAbs z)
+pub too-low : (z : ℤ) → ltZ z (negsuc (most-coordinate - 1)) ≡ true → true ≡ ltb most-coordinate (natAbs z)
 too-low (pos n) e = absurd (true≢false (sym e))
-too-low (negsuc n) e = sym (lt-ltb most-coordinate (suc n) (omega (arith, ltb-true 1048575 n e)))
+too-low (negsuc n) e = sym (lt-ltb most-coordinate (suc n) (omega (arith, ltb-true (most-coordinate - 1) n e)))
 
-pub too-high : (z : ℤ) → ltZ z (negsuc 1048575) ≡ false → ltZ (pos most-coordinate) z ≡ ltb most-coordinate (natAbs z)
+pub too-high : (z : ℤ) → ltZ z (negsuc (most-coordinate - 1)) ≡ false → ltZ (pos most-coordinate) z ≡ ltb most-coordinate (natAbs z)
 too-high (pos n) e = refl
-too-high (negsuc n) e = sym (le-ltb most-coordinate (suc n) (omega (arith, ltb-false 1048575 n e)))
+too-high (negsuc n) e = sym (le-ltb most-coordinate (suc n) (omega (arith, ltb-false (most-coordinate - 1) n e)))

@@ -5,6 +5,7 @@
 use std::fs;
 use std::path::{Path, PathBuf};
 use std::process::{Command, Output};
+use std::sync::LazyLock;
 
 use compare::{accepted, file_of, named, repository, run};
 use second::counter::count_levels;
@@ -20,8 +21,18 @@ fn folder(name: &str) -> PathBuf {
     folder
 }
 
+/// The command, with both of its programs proved: a first run says more.
+static COMMAND: LazyLock<PathBuf> = LazyLock::new(|| {
+    let command = repository().join("ryebadger");
+    for words in [&["list"][..], &["counts", "12", "6", "4", "2"]] {
+        let status = run(Command::new(&command).args(words), b"").status.code();
+        assert!(status < Some(2), "{words:?}");
+    }
+    command
+});
+
 fn ryebadger() -> Command {
-    let mut command = Command::new(repository().join("ryebadger"));
+    let mut command = Command::new(&*COMMAND);
     command.current_dir(env!("CARGO_TARGET_TMPDIR"));
     command
 }
@@ -38,7 +49,10 @@ fn assert_fails(output: &Output, status: i32, part: &str) {
     let (ended, text, said) = told(output);
     assert_eq!((ended, text.as_str()), (status, ""), "{said}");
     assert_eq!(said.lines().count(), 1, "{said}");
-    assert!(said.starts_with("ryebadger: ") && said.contains(part), "{said}");
+    assert!(
+        said.starts_with("ryebadger: ") && said.contains(part),
+        "{said}"
+    );
 }
 
 /// What is printed is the second program's: lines, or a refusal with status 1.
@@ -67,7 +81,7 @@ fn in_shell(script: &str, name: &str) -> Output {
     let folder = folder(name);
     fs::write(folder.join("triangle.cage"), file_of(&named("triangle"))).expect("written");
     let mut shell = Command::new("sh");
-    shell.arg("-c").arg(script).arg(repository().join("ryebadger"));
+    shell.arg("-c").arg(script).arg(&*COMMAND);
     run(shell.current_dir(folder), b"")
 }
 
@@ -172,7 +186,11 @@ fn help_is_an_answer() {
         assert_eq!((status, said.as_str()), (0, ""));
         assert!(text.starts_with("usage: ryebadger list [FILE]\n"));
     }
-    assert_fails(&in_shell("\"$0\" --help >/dev/full", "help-full"), 3, "output");
+    assert_fails(
+        &in_shell("\"$0\" --help >/dev/full", "help-full"),
+        3,
+        "output",
+    );
     assert_fails(&in_shell("\"$0\" --help >&-", "help-closed"), 3, "output");
 }
 
@@ -187,11 +205,19 @@ const PIPE_THAT_NOBODY_READS: &str = "
 #[test]
 fn a_stream_that_fails_is_told() {
     let failing = [
-        ("\"$0\" list triangle.cage >/dev/full", "output cannot be written"),
-        ("\"$0\" counts 12 6 4 2 >/dev/full", "output cannot be written"),
+        (
+            "\"$0\" list triangle.cage >/dev/full",
+            "output cannot be written",
+        ),
+        (
+            "\"$0\" counts 12 6 4 2 >/dev/full",
+            "output cannot be written",
+        ),
         ("\"$0\" list triangle.cage >&-", "output is closed"),
         ("\"$0\" counts 12 6 4 2 >&-", "output is closed"),
         ("\"$0\" list <&-", "input is closed"),
+        ("\"$0\" list - <&-", "input is closed"),
+        ("\"$0\" list ''", "cannot be opened"),
         ("\"$0\" list nowhere.cage", "nowhere.cage cannot be opened"),
         ("\"$0\" list .", ". is a folder"),
         ("\"$0\" list <.", "input cannot be read"),
@@ -211,7 +237,7 @@ fn a_file_is_listed_from_anywhere() {
         "\"$0\" list - <triangle.cage",
         "cat triangle.cage | \"$0\" list",
         "cp triangle.cage 'a  b.cage' && \"$0\" list 'a  b.cage'",
-        "cp triangle.cage -- && \"$0\" list --",
+        "cp triangle.cage ./-- && \"$0\" list --",
         "\"$0\" list triangle.cage 2>&-",
         "ln -s \"$0\" 'by link' && './by link' list triangle.cage",
         "cd / && \"$0\" list <\"$OLDPWD/triangle.cage\"",
@@ -227,9 +253,8 @@ fn a_file_is_listed_from_anywhere() {
 /// A copy of what the command needs, at a path with spaces, and a toolchain in
 /// front of the real one whose `rt check` notes the crate, and makes of the
 /// counter the program that is proved already.
-fn copy_with_toolchain(name: &str, fails_at: &str) -> Command {
+fn copy_with_toolchain(name: &str, fails_at: &str) -> PathBuf {
     let copy = folder(name).join("a copy");
-    let toolchain = copy.join("toolchain");
     let script = format!(
         "set -e
          cd \"$0\"
@@ -244,6 +269,7 @@ fn copy_with_toolchain(name: &str, fails_at: &str) -> Command {
 #!/bin/sh
 [ \"$1\" != version ] || {{ echo of a test; exit 0; }}
 echo \"$2\" >>checked
+sleep 0.1
 [ \"$2\" != '{fails_at}' ] || {{ echo first; echo rt: a fact fails; exit 1; }}
 mkdir -p target/bin
 [ \"$2\" != counter ] || cp toolchain/counter target/bin/counter
@@ -251,17 +277,23 @@ RT
          chmod +x \"$1/toolchain/bin/rt\""
     );
     let mut shell = Command::new("sh");
-    let made = run(shell.arg("-c").arg(script).arg(repository()).arg(&copy), b"");
+    let repository = COMMAND.parent().expect("a folder");
+    let made = run(shell.arg("-c").arg(script).arg(repository).arg(&copy), b"");
     assert_eq!(told(&made), (0, String::new(), String::new()));
+    copy
+}
+
+/// The count question of document 01's P8, put to the command of a copy.
+fn count_in(copy: &Path) -> Output {
     let mut command = Command::new(copy.join("ryebadger"));
-    command.env("RATTLE_HOME", toolchain).args(["counts", "12", "6", "4", "2"]);
-    command
+    let asked = command.args(["counts", "12", "6", "4", "2"]);
+    run(asked.env("RATTLE_HOME", copy.join("toolchain")), b"")
 }
 
 /// What is said while the counter is proved, up to this many crates.
 fn proving(crates: usize) -> String {
     let names = ["laws", "halfedges", "text", "counter"];
-    let mut said = String::from("ryebadger: proving counter, once; this takes some minutes\n");
+    let mut said = String::from("ryebadger: proving counter, once, which can take some minutes\n");
     for (name, at) in names.iter().zip(1..).take(crates) {
         said += &format!("ryebadger: proving {name}, {at} of {}\n", names.len());
     }
@@ -270,32 +302,53 @@ fn proving(crates: usize) -> String {
 
 #[test]
 fn the_first_run_proves_and_says_so() {
-    let mut command = copy_with_toolchain("first-run", "");
-    let lines = count_levels(b"12 6 4 2\n").expect("a question").expect("accepted");
-    let first = told(&run(&mut command, b""));
+    let copy = copy_with_toolchain("first-run", "");
+    let question = count_levels(b"12 6 4 2\n").expect("a question");
+    let lines = question.expect("accepted");
+    let first = told(&count_in(&copy));
     assert_eq!(first, (0, lines.clone(), proving(4)));
-    let second = told(&run(&mut command, b""));
+    let second = told(&count_in(&copy));
     assert_eq!(second, (0, lines.clone(), String::new()));
     // A change is proved again.
-    let crates = Path::new(env!("CARGO_TARGET_TMPDIR")).join("first-run/a copy/crates");
-    fs::write(crates.join("laws/src/lib.rt"), "// changed").expect("written");
-    let third = told(&run(&mut command, b""));
+    fs::write(copy.join("crates/laws/src/lib.rt"), "// changed").expect("written");
+    let third = told(&count_in(&copy));
     assert_eq!(third, (0, lines, proving(4)));
 }
 
 #[test]
+fn two_first_runs_at_once_prove_once() {
+    let copy = copy_with_toolchain("two-runs", "");
+    std::thread::scope(|scope| {
+        let both = [(); 2].map(|()| scope.spawn(|| count_in(&copy)));
+        for output in both {
+            let (status, text, _) = told(&output.join().expect("ended"));
+            assert_eq!((status, text.lines().count()), (0, 4));
+        }
+    });
+    let checked = fs::read_to_string(copy.join("checked")).expect("a list of crates");
+    assert_eq!(checked, "laws\nhalfedges\ntext\ncounter\n");
+}
+
+#[test]
 fn what_is_not_proved_is_not_run() {
-    let mut command = copy_with_toolchain("not-proved", "halfedges");
-    let (status, text, said) = told(&run(&mut command, b""));
+    let copy = copy_with_toolchain("not-proved", "halfedges");
+    let (status, text, said) = told(&count_in(&copy));
     assert_eq!((status, text.as_str()), (3, ""));
     let reason = "ryebadger: halfedges is not proved: rt: a fact fails\n";
     assert_eq!(said, proving(2) + reason);
 }
 
 #[test]
+fn a_folder_that_cannot_be_written_is_told() {
+    let copy = copy_with_toolchain("no-target", "");
+    fs::write(copy.join("target"), "a file").expect("written");
+    assert_fails(&count_in(&copy), 3, "target cannot be written");
+}
+
+#[test]
 fn a_missing_toolchain_is_told() {
     let mut command = ryebadger();
-    let nowhere = folder("no-toolchain");
-    let output = run(command.env("RATTLE_HOME", nowhere).args(["counts", "12", "6", "4", "2"]), b"");
+    let asked = command.args(["counts", "12", "6", "4", "2"]);
+    let output = run(asked.env("RATTLE_HOME", folder("no-toolchain")), b"");
     assert_fails(&output, 3, "toolchain");
 }
