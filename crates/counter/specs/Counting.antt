@@ -38,7 +38,7 @@ longest = 84
 abbrev pub usage : List ℕ
 usage =
     ascii
-    "ryebadger: the count question is one line, H E V DEPTH: whole numbers of at most 20 digits, one space between, none above 18446744073709551615"
+    "ryebadger: a count question is H E V DEPTH on one line, each at most 18446744073709551615 in at most 20 digits"
 
 -- the line of level k: its number, H, E, F and V
 abbrev pub countLine : Levels → ℕ → List ℕ

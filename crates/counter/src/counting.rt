@@ -1,11 +1,10 @@
 // The reply to a text: the counts of the levels asked for, the refusal, or what a question looks like.
-ghost use mathlib.Core.Path.{_≡_};
 ghost use Prim.Native.Nat.{suc, _≤_};
 ghost use lib.ListN.{length};
 ghost use Rattle.io.specs.Counts.{Counts};
 ghost use Rattle.laws.specs.Below.{endToEnd};
-ghost use Rattle.laws.specs.Parts.{inFront};
 ghost use Rattle.halfedges.specs.Cage.{most-depth};
+ghost use Rattle.text.specs.Replies.{Says};
 ghost use Rattle.text.specs.Put.{Put, Replied};
 ghost use Rattle.counter.specs.Counting.{countLine, countLines, counting, countReply};
 use crate::question;
@@ -18,9 +17,7 @@ use text::replies::Written;
 
 // The reply to any bytes, its text at the front of out.
 pub fn count(text: &[u8], out: &mut [u8; 1024]) -> Written
-    ensures { λ r.
-        let reply = countReply (now (text .entry)) in
-        ⌜ (now (out .exit) ≡ inFront (reply .text) (now (out .entry))) × (r .length ≡ length (reply .text)) × (r .status ≡ reply .status) ⌝ }
+    ensures { λ r. ⌜ Says (countReply (now (text .entry))) (now (out .entry)) (now (out .exit)) r ⌝ }
     ensures { λ r. ⌜ Counts (r .length) (now (out .exit)) ⌝ }
 {
     count_into(text, out)
@@ -41,7 +38,7 @@ fn count_into(text: &[u8], out: &mut [u8]) -> Written
     else {
         return replies::put_misuse(
             &mut *out,
-            b"ryebadger: the count question is one line, H E V DEPTH: whole numbers of at most 20 digits, one space between, none above 18446744073709551615",
+            b"ryebadger: a count question is H E V DEPTH on one line, each at most 18446744073709551615 in at most 20 digits",
         );
     };
     let table = HalfedgeTable {

@@ -5,10 +5,10 @@ ghost use Prim.Native.Nat.{_+_, _*_, _≤_};
 ghost use lib.ListN.{length};
 ghost use Rattle.io.specs.Counts.{Counts};
 ghost use Rattle.laws.specs.Below.{endToEnd};
-ghost use Rattle.laws.specs.Parts.{inFront};
 ghost use Rattle.halfedges.specs.Cage.{most-halfedges, most-vertices};
 ghost use Rattle.connectivity.specs.Tables.{tables};
 ghost use Rattle.text.specs.Lines.{decimal, line, countWords};
+ghost use Rattle.text.specs.Replies.{Says};
 ghost use Rattle.text.specs.Put.{Put, Replied};
 ghost use Rattle.lister.specs.Listing.{levelLine, levelLines, cageListing, listing};
 ghost use Rattle.lister.specs.Doubling.{doubled};
@@ -20,9 +20,7 @@ use text::replies::Written;
 
 // The reply to any bytes, its text at the front of out.
 pub fn list(file: &[u8], out: &mut [u8; 1024]) -> Written
-    ensures { λ r.
-        let reply = listing (now (file .entry)) in
-        ⌜ (now (out .exit) ≡ inFront (reply .text) (now (out .entry))) × (r .length ≡ length (reply .text)) × (r .status ≡ reply .status) ⌝ }
+    ensures { λ r. ⌜ Says (listing (now (file .entry))) (now (out .entry)) (now (out .exit)) r ⌝ }
     ensures { λ r. ⌜ Counts (r .length) (now (out .exit)) ⌝ }
 {
     let mut twin = [0u32; HalfedgeTable::MOST_HALFEDGES];

@@ -6,9 +6,8 @@ use native.Mathlib.Omega.{arith}
 use lib.ListN.{length}
 use lib.Seq.{length-take-le}
 use Rattle.io.specs.Counts.{Counts}
-use Rattle.laws.specs.Parts.{inFront}
 use Rattle.text.specs.declared.replies.Written.{Written}
-use Rattle.text.specs.Replies.{Reply}
+use Rattle.text.specs.Replies.{Reply, Says}
 use Rattle.text.specs.Put.{Replied}
 use Rattle.text.proofs.Texts.{put-within}
 
@@ -19,8 +18,7 @@ module _ {a b : List ℕ} {w : Written} where
   pub replied-as : {n : ℕ} {r s : Reply} → r ≡ s → Replied a n r b w → Replied a n s b w
   replied-as {n = n} e p = subst (λ t. Replied a n t b w) e p
 
-  pub replied-whole : {n : ℕ} {r : Reply} → n ≤ length b → Replied a n r b w
-      → ((b ≡ inFront (r .text) a) × (w .length ≡ length (r .text)) × (w .status ≡ r .status)) × Counts (w .length) b
+  pub replied-whole : {n : ℕ} {r : Reply} → n ≤ length b → Replied a n r b w → Says r a b w × Counts (w .length) b
   replied-whole l p =
       let fits : w .length ≤ length b = omega (arith, p .put .ends, p .put .short) in
-      ((p .put .bytes, omega (arith, p .put .ends), p .status), (fits, sym (length-take-le _ _ fits)))
+      (record { status = p .status; text = p .put .bytes; ends = omega (arith, p .put .ends) }, (fits, sym (length-take-le _ _ fits)))
