@@ -8,7 +8,7 @@ use borrow.Author.Tests.{ne-eqb}
 use Rattle.halfedges.specs.declared.table.HalfedgeTable.{HalfedgeTable}
 use Rattle.halfedges.specs.declared.table.Counted.{Counted}
 use Rattle.halfedges.specs.Cage.{most-depth}
-use Rattle.halfedges.specs.Refusals.{DONE, SHAPE, LIMIT, told, given, first, said}
+use Rattle.halfedges.specs.Refusals.{DONE, SHAPE, LIMIT, told, given, said}
 use Rattle.halfedges.specs.Counts.{countShape, aboveLimit, countQuestion, counted}
 use Rattle.halfedges.proofs.Checks.{done-passes}
 use Rattle.halfedges.proofs.Questions.{limits-kept}

@@ -2,12 +2,13 @@
 ghost use mathlib.Core.List.{[], _∷_, _++_};
 ghost use Prim.Native.Nat.{_+_, _≤_};
 ghost use lib.ListN.{length};
-ghost use Rattle.text.specs.Lines.{decimal, ended, line, countWords, roomLine};
+ghost use Rattle.text.specs.Lines.{decimal, ended, countWords, roomLine};
 ghost use Rattle.text.specs.Put.{Put};
 
-// What stands between the words of a line, and after the last.
+// What stands between the words of a line.
 pub const SPACE: u8 = 32;
 
+// What stands after the last word of a line.
 pub const NEWLINE: u8 = 10;
 
 // A word, and what stands after it.

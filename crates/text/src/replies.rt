@@ -1,5 +1,4 @@
 // What a program says: a status and a text.
-ghost use mathlib.Core.Path.{_≡_};
 ghost use Prim.Native.Nat.{_+_, _≤_};
 ghost use lib.ListN.{length};
 ghost use Rattle.halfedges.specs.Refusals.{told};
@@ -8,13 +7,16 @@ ghost use Rattle.text.specs.Put.{Replied};
 use crate::lines;
 use halfedges::answer::Answer;
 
-// The statuses: an answer, a refusal, a question that is none, and a stream that failed.
+// The status of an answer.
 pub const ANSWERED: usize = 0;
 
+// The status of a refusal.
 pub const REFUSED: usize = 1;
 
+// The status where no question was asked.
 pub const MISUSED: usize = 2;
 
+// The status where a stream failed.
 pub const FAILED: usize = 3;
 
 // A reply's status, and how many bytes its text has, at the front of what was lent for it.

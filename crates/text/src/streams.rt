@@ -74,6 +74,7 @@ fn fail(message: &[u8]) {
     end(replies::FAILED);
 }
 
+// Hands the status over to the command.
 fn end(status: usize) {
     io::print_decimal(STATUS_FILENO, status as u64);
 }

@@ -1,8 +1,6 @@
 -- An accepted question is answered by its counts, any other by its refusal.
-use Prim.Native.Nat.{_≤_}
 use mathlib.Core.Path.{_≡_, refl, sym, _∙_}
 use native.Mathlib.Omega.{arith}
-use Rattle.halfedges.specs.Cage.{most-depth}
 use Rattle.halfedges.specs.Refusals.{told}
 use Rattle.text.proofs.Replying.{replied-within, replied-as}
 use Rattle.counter.proofs.Outcomes.{refused-reply, answered-reply, depth-kept}

@@ -1,7 +1,7 @@
 -- `ask` reads the four numbers one after another, each from where the one before ended.
 use mathlib.Core.Path.{_≡_, sym, _∙_}
 use borrow.Author.Tests.{eq-eqb, ne-eqb}
-use Rattle.text.specs.declared.numbers.Number.the-variants.{Missing, Found}
+use Rattle.text.specs.declared.numbers.Number.the-variants.{Found}
 use Rattle.text.specs.Lines.{space, newline}
 use Rattle.text.specs.Numbers.{numberAt}
 use Rattle.counter.specs.Counting.{asked}
