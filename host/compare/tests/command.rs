@@ -157,10 +157,12 @@ fn what_is_no_count_question_is_told() {
 
 #[test]
 fn other_words_are_told() {
-    let wrong: [(&[&str], &str); 8] = [
+    let wrong: [(&[&str], &str); 10] = [
         (&[], "no command"),
         (&["corners", "0", "1", "2", "3"], "corners"),
         (&["lists"], "lists"),
+        (&["list,"], "list,"),
+        (&["list --help"], "list --help"),
         (&[""], "no command"),
         (&["counts"], "H, E, V and DEPTH"),
         (&["counts", "12", "6", "4"], "H, E, V and DEPTH"),
@@ -270,7 +272,7 @@ fn copy_with_toolchain(name: &str, fails_at: &str) -> PathBuf {
 [ \"$1\" != version ] || {{ echo of a test; exit 0; }}
 echo \"$2\" >>checked
 sleep 0.1
-[ \"$2\" != '{fails_at}' ] || {{ echo first; echo rt: a fact fails; exit 1; }}
+[ \"$2\" != '{fails_at}' ] || {{ echo rt: a fact fails; exit 1; }}
 mkdir -p target/bin
 [ \"$2\" != counter ] || cp toolchain/counter target/bin/counter
 RT
@@ -334,8 +336,10 @@ fn what_is_not_proved_is_not_run() {
     let copy = copy_with_toolchain("not-proved", "halfedges");
     let (status, text, said) = told(&count_in(&copy));
     assert_eq!((status, text.as_str()), (3, ""));
-    let reason = "ryebadger: halfedges is not proved: rt: a fact fails\n";
+    let reason = "ryebadger: halfedges is not proved; target/proving has what rt said\n";
     assert_eq!(said, proving(2) + reason);
+    let rt_said = fs::read_to_string(copy.join("target/proving")).expect("text");
+    assert_eq!(rt_said, "rt: a fact fails\n");
 }
 
 #[test]
