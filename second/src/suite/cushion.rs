@@ -21,7 +21,7 @@ pub(super) fn cushion() -> Cage {
     cushion_of(12)
 }
 
-/// The same seat in so few triangles, 72, that each can be seen.
+/// The cushion to draw: 6 cells each way, 72 triangles, few enough to see.
 pub(super) fn coarse_cushion() -> Cage {
     cushion_of(6)
 }
