@@ -21,7 +21,7 @@ pub fn read(buffer: &mut [u8]) -> Input
 {
     let input = fill(&mut *buffer);
     if input.failed {
-        fail(b"ryebadger: standard input cannot be read\n");
+        fail(b"ryebadger: the input cannot be read\n");
     }
     input
 }

@@ -222,7 +222,9 @@ fn a_stream_that_fails_is_told() {
         ("\"$0\" list ''", "cannot be opened"),
         ("\"$0\" list nowhere.cage", "nowhere.cage cannot be opened"),
         ("\"$0\" list .", ". is a folder"),
-        ("\"$0\" list <.", "input cannot be read"),
+        ("\"$0\" list <.", "the input cannot be read"),
+        // It opens, and reading it from the start fails.
+        ("\"$0\" list /proc/self/mem", "the input cannot be read"),
         (PIPE_THAT_NOBODY_READS, "output cannot be written"),
     ];
     for (at, (script, part)) in failing.into_iter().enumerate() {
@@ -297,7 +299,7 @@ fn proving(crates: usize) -> String {
     let names = ["laws", "halfedges", "text", "counter"];
     let mut said = String::from("ryebadger: proving counter, once, which can take some minutes\n");
     for (name, at) in names.iter().zip(1..).take(crates) {
-        said += &format!("ryebadger: proving {name}, {at} of {}\n", names.len());
+        said += &format!("ryebadger: at {name}, {at} of {}\n", names.len());
     }
     said
 }
@@ -323,8 +325,14 @@ fn two_first_runs_at_once_prove_once() {
     std::thread::scope(|scope| {
         let both = [(); 2].map(|()| scope.spawn(|| count_in(&copy)));
         for output in both {
-            let (status, text, _) = told(&output.join().expect("ended"));
+            let (status, text, said) = told(&output.join().expect("ended"));
             assert_eq!((status, text.lines().count()), (0, 4));
+            // One proves. The other waits for it, unless it came later.
+            let waiting = "ryebadger: waiting for another run, which is proving\n";
+            assert!(
+                [&proving(4), waiting, ""].contains(&said.as_str()),
+                "{said}"
+            );
         }
     });
     let checked = fs::read_to_string(copy.join("checked")).expect("a list of crates");
