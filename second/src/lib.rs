@@ -4,7 +4,6 @@
 //!
 //! Every public function answers for any table, number or bytes.
 
-pub mod bare;
 pub mod cage;
 pub mod check;
 pub mod corners;

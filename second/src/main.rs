@@ -5,16 +5,14 @@
 use std::io::{self, Read, Write};
 use std::process::ExitCode;
 
+use second::cage::Cage;
+use second::check::{check, CageCounts};
 use second::counter::count_levels;
 use second::file::write_cage_file;
 use second::lister::list_levels;
-use second::questions::check::check_numbers;
-use second::questions::{answer_line, answers, check, corners, counts, refining, tables};
 use second::suite::{cage_named, suite, SuiteCage};
 
-const USAGE: &str = "usage: second questions \
-    counts|corners|check|check-large|tables|refining|refining-digests \
-    | second answers | second list | second counts | second cage NAME | second suite";
+const USAGE: &str = "usage: second list | second counts | second cage NAME | second suite";
 
 fn main() -> ExitCode {
     let words: Option<Vec<String>> = std::env::args_os()
@@ -56,14 +54,6 @@ impl From<io::Error> for Trouble {
 /// What these words ask to be printed.
 fn output(words: &[&str]) -> Result<Vec<u8>, Trouble> {
     let text = match words {
-        ["questions", "counts"] => counts::questions(),
-        ["questions", "corners"] => corners::questions(),
-        ["questions", "check"] => check::questions(),
-        ["questions", "check-large"] => check::large_questions(),
-        ["questions", "tables"] => tables::questions(),
-        ["questions", "refining"] => refining::questions(),
-        ["questions", "refining-digests"] => refining::digest_questions(),
-        ["answers"] => answers_to_input()?,
         ["list"] => list_levels(&standard_input()?),
         ["counts"] => counts_of(&standard_input()?)?,
         ["suite"] => suite().iter().map(suite_line).collect(),
@@ -92,18 +82,26 @@ fn counts_of(question: &[u8]) -> Result<String, Trouble> {
     Ok(counted.unwrap_or_else(|refusal| refusal.line()))
 }
 
-/// The answers to the questions on standard input.
-fn answers_to_input() -> Result<String, Trouble> {
-    let questions = String::from_utf8_lossy(&standard_input()?).into_owned();
-    answers(&questions).map_err(|unreadable| Trouble::Message(unreadable.to_string()))
-}
-
 /// The name, the lengths of the four tables, and the cage check's answer.
 fn suite_line(SuiteCage { name, cage, .. }: &SuiteCage) -> String {
     let (twin, vert) = (cage.twin.len(), cage.vert.len());
     let (edge, points) = (cage.edge.len(), cage.points.len());
-    let answer = answer_line(check_numbers(cage));
+    let answer = check_answer(cage);
     format!("{name} {twin} {vert} {edge} {points} {answer}\n")
+}
+
+/// Number, place, H, E, F, V and B. On a refusal the counts are zero.
+fn check_answer(cage: &Cage) -> String {
+    match check(cage) {
+        Ok(CageCounts {
+            halfedges,
+            edges,
+            triangles,
+            vertices,
+            borders,
+        }) => format!("0 0 {halfedges} {edges} {triangles} {vertices} {borders}"),
+        Err(refusal) => format!("{} {} 0 0 0 0 0", refusal.number, refusal.place),
+    }
 }
 
 /// The cage file of a named cage.

@@ -28,12 +28,11 @@ fn printed(words: &[&str], input: &[u8]) -> String {
 
 #[test]
 fn unknown_usage_is_told() {
-    let unknown: [&[&str]; 6] = [
+    let unknown: [&[&str]; 5] = [
         &[],
-        &["question"],
-        &["questions"],
-        &["answers", "check"],
+        &["lists"],
         &["list", "more"],
+        &["counts", "12"],
         &["cage"],
     ];
     for words in unknown {
@@ -88,17 +87,6 @@ fn a_cage_without_a_file_is_told() {
     assert_eq!(refused.status.code(), Some(1));
     assert_eq!(refused.stderr, b"refused 7 0\n");
     assert_eq!(run(&["cage", "nothing"], &[]).status.code(), Some(1));
-}
-
-#[test]
-fn each_question_has_an_answer() {
-    for kind in ["counts", "corners", "check", "tables"] {
-        let questions = printed(&["questions", kind], &[]);
-        let answers = printed(&["answers"], questions.as_bytes());
-        assert_eq!(questions.lines().count(), answers.lines().count());
-    }
-    let unreadable = run(&["answers"], b"1 2 3\n");
-    assert_eq!(unreadable.status.code(), Some(1));
 }
 
 #[test]

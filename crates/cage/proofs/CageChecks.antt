@@ -14,9 +14,9 @@ use borrow.Author.Tests.{eq-eqb, ne-eqb, lt-ltb, le-ltb, ltb-true, ltb-false}
 use Rattle.laws.proofs.Tests.{or-true, or-false-right}
 use Rattle.halfedges.specs.Refusals.{Verdict, SHAPE, POINT, given, givenAt, first}
 use Rattle.halfedges.proofs.Checks.{first-stops, first-passes, given-alone}
-use Rattle.connectivity.specs.Tables.{Tables}
-use Rattle.connectivity.specs.Rules.{misshapen}
-use Rattle.connectivity.specs.Operations.{tableChecks}
+use Rattle.tables.specs.Tables.{Tables}
+use Rattle.tables.specs.Rules.{misshapen}
+use Rattle.tables.specs.Check.{tableChecks}
 use Rattle.points.specs.Operations.{vertices, most-coordinate, outOfRange, cageChecks}
 
 module _ (c : Tables) (points : List ℤ) (depth : ℕ) where

@@ -4,24 +4,21 @@ ghost use lib.Dec.{ltb};
 ghost use lib.IntN.{natAbs};
 ghost use lib.ListN.{length};
 ghost use Rattle.halfedges.specs.Refusals.{POINT, told, givenAt, first};
-ghost use Rattle.connectivity.specs.Tables.{tables};
-ghost use Rattle.connectivity.specs.Operations.{checked};
+ghost use Rattle.tables.specs.Tables.{tables};
+ghost use Rattle.tables.specs.Check.{checked};
 ghost use Rattle.points.specs.Operations.{most-coordinate, outOfRange, cageChecks, checkCage};
-use connectivity::check;
-use connectivity::check::Checked;
 use halfedges::answer::Answer;
 use points::rules::LEAST_COORDINATE;
 use points::rules::MOST_COORDINATE;
+use tables::check;
+use tables::check::Checked;
 
 // The cage check, which has no depth.
 pub fn check_cage(twin: &[u32], vert: &[u32], edge: &[u32], points: &[i32]) -> Checked
     ensures { λ r. ⌜ checked r ≡ checkCage (tables (now (twin .entry)) (now (vert .entry)) (now (edge .entry))) (now (points .entry)) ⌝ }
 {
     let answer = check_for_depth(twin, vert, edge, points, 0);
-    if answer.number() != 0 {
-        return check::refused(answer);
-    }
-    check::accepted(twin, points.len() / 3)
+    check::answered(answer, twin, points.len() / 3)
 }
 
 // Checks 1 to 8 of any tables, where the depth's limit counts too.
@@ -32,7 +29,9 @@ pub fn check_for_depth(
     points: &[i32],
     depth: usize,
 ) -> Answer
-    ensures { λ r. ⌜ told r ≡ first (cageChecks (tables (now (twin .entry)) (now (vert .entry)) (now (edge .entry))) (now (points .entry)) depth) ⌝ }
+    ensures { λ r.
+        ⌜ told r ≡ first (cageChecks (tables (now (twin .entry)) (now (vert .entry)) (now (edge .entry)))
+        (now (points .entry)) depth) ⌝ }
 {
     if points.len() % 3 != 0 {
         return Answer::Shape;

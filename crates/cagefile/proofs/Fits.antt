@@ -10,11 +10,16 @@ use lib.IntN.{ℤ, pos, natAbs}
 use lib.ListN.{length, getD, length-append, length-map}
 use Rattle.laws.proofs.Chunks.{length-flatMap}
 use Rattle.halfedges.specs.Cage.{marker, most-halfedges, most-vertices, cell}
-use Rattle.connectivity.specs.Tables.{Tables}
+use Rattle.tables.specs.Tables.{Tables}
 use Rattle.points.specs.Operations.{vertices, most-coordinate}
-use Rattle.cagefile.specs.Fields.{u16, u32, twos, opening, heads, payloads, fields, file}
+use Rattle.cagefile.specs.Numbers.{u16, u32, twos}
+use Rattle.cagefile.specs.Fields.{opening, heads, payloads, fields, file, Head}
 use Rattle.cagefile.proofs.NumberLaws.{stored}
-use Rattle.cagefile.proofs.FieldLaws.{Sized, none, more}
+
+-- heads and payloads that belong together
+pub data Sized : List Head → List (List ℕ) → Type 0 where
+  none : Sized [] []
+  more : {h : Head} {p : List ℕ} {hs : List Head} {ps : List (List ℕ)} → length p ≡ h .size → h .size < 65536 → Sized hs ps → Sized (h ∷ hs) (p ∷ ps)
 
 -- tables of equal length, and three coordinates for each vertex
 pub record Shaped (c : Tables) (points : List ℤ) : Type 0 where

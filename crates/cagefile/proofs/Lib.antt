@@ -1,13 +1,2 @@
-pub mod Told
 pub mod NumberLaws
-pub mod FieldLaws
-pub mod Verdict
-pub mod Outcomes
 pub mod Fits
-pub mod FieldWriting
-pub mod Accepted
-pub mod ReadBack
-pub mod WriteBack
-pub mod RoundTrips
-pub mod WriteChecks
-pub mod Prefix

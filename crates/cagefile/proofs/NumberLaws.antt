@@ -18,8 +18,7 @@ use lib.ListN.{length, getD, take, drop}
 use lib.Seq.{getD-drop, drop-cons, drop-drop, take-add}
 use borrow.Author.Tests.{eq-eqb, ne-eqb, lt-ltb, le-ltb}
 use Rattle.halfedges.specs.Cage.{marker}
-use Rattle.cagefile.specs.Fields.{u16, u32, twos, noTwin}
-use Rattle.cagefile.specs.Reading.{u16At, u32At, asTwin, signed}
+use Rattle.cagefile.specs.Numbers.{u16, u32, twos, noTwin, u16At, u32At, asTwin, signed}
 
 -- each is a byte
 pub record Bytes (f : List ℕ) : Type 0 where

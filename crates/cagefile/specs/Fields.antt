@@ -1,29 +1,14 @@
 -- Document 01, "The cage file": its fields.
-use Prim.Native.Nat.{ℕ, _+_, _-_, _*_, _/_, _%_}
+use Prim.Native.Nat.{ℕ, _*_}
 use mathlib.Core.Bool.{cond}
 use mathlib.Core.List.{List, [], _∷_, _++_, map, flatMap}
 use lib.Dec.{eqb}
-use lib.IntN.{ℤ, pos, negsuc}
+use lib.IntN.{ℤ}
 use lib.ListN.{length}
 use Rattle.halfedges.specs.Cage.{marker}
-use Rattle.connectivity.specs.Tables.{Tables}
+use Rattle.tables.specs.Tables.{Tables}
 use Rattle.points.specs.Operations.{vertices}
-
--- "All numbers little-endian"
-abbrev pub u16 : ℕ → List ℕ
-u16 n = n % 256 ∷ n / 256 % 256 ∷ []
-
-abbrev pub u32 : ℕ → List ℕ
-u32 n = u16 (n % 65536) ++ u16 (n / 65536)
-
--- "two's complement 32-bit"
-abbrev pub twos : ℤ → ℕ
-twos (pos n) = n
-twos (negsuc n) = 4294967295 - n
-
--- "65535 for no twin"
-abbrev pub noTwin : ℕ
-noTwin = 65535
+use Rattle.cagefile.specs.Numbers.{u16, u32, twos, noTwin}
 
 -- a tag, and how many bytes follow the head
 pub record Head : Type 0 where

@@ -1,3 +1,2 @@
+pub mod Numbers
 pub mod Fields
-pub mod Reading
-pub mod Writing

@@ -1,6 +1,3 @@
-// The cage file: reading it into lent tables, and writing a cage's file.
-mod checks;
-mod fields;
-mod numbers;
-pub mod reading;
-pub mod writing;
+// The cage file's fields, and numbers as its bytes.
+pub mod fields;
+pub mod numbers;

@@ -2,9 +2,8 @@
 ghost use mathlib.Core.Path.{_≡_};
 ghost use Prim.Native.Nat.{_+_, _≤_, _<_};
 ghost use lib.ListN.{length};
-ghost use Rattle.laws.specs.Parts.{splice};
-ghost use Rattle.cagefile.specs.Fields.{u16, u32, twos};
-ghost use Rattle.cagefile.specs.Reading.{u16At, u32At, signed as Reading·signed};
+ghost use Rattle.laws.specs.Internal.Parts.{splice};
+ghost use Rattle.cagefile.specs.Numbers.{u16, u32, twos, u16At, u32At, signed as Reading·signed};
 
 // The number in two bytes.
 pub fn number_at(file: &[u8], at: usize) -> u32

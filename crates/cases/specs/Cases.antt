@@ -8,11 +8,12 @@ use Rattle.halfedges.specs.declared.table.Levels.{Levels}
 use Rattle.halfedges.specs.Cage.{NEXT, PREV, marker, cell, above, E, B}
 use Rattle.halfedges.specs.Refusals.{given, givenAt, short, first, Said, said, filled}
 use Rattle.halfedges.specs.Counts.{countsAt, seven, levels, countShape, aboveLimit, countQuestion}
-use Rattle.connectivity.specs.Tables.{Tables, tables}
-use Rattle.connectivity.specs.Rules.{misshapen, badTwin, badVertex, unused, stranger, badEdge}
-use Rattle.connectivity.specs.Fans.{met, joined, notOneFan}
-use Rattle.connectivity.specs.NextLevel.{rows, newTwin, newEdge, newVert, nextTwins, nextEdges, nextVerts, level}
-use Rattle.connectivity.specs.Operations.{rules, returned, shortTables, filledTables, levelsEndToEnd}
+use Rattle.tables.specs.Tables.{Tables, tables}
+use Rattle.tables.specs.Rules.{misshapen, badTwin, badVertex, unused, stranger, badEdge}
+use Rattle.tables.specs.Fans.{met, joined, notOneFan}
+use Rattle.splitting.specs.NextLevel.{rows, newTwin, newEdge, newVert, nextTwins, nextEdges, nextVerts, level}
+use Rattle.tables.specs.Check.{rules, returned}
+use Rattle.levels.specs.Refining.{shortTables, filledTables, levelsEndToEnd}
 use Rattle.rounding.specs.Rounding.{round}
 use Rattle.points.specs.PointRules.{E1, E2, V2, V3}
 use Rattle.points.specs.NextPoints.{corners, spokeEnds, creaseEnds, vertexPoint, edgePoint, newPoint, nextPoints, levelPoints}
@@ -79,7 +80,9 @@ cases =
     ∷ P (drop 9 (triangleRefined .points))
     (map pos (100 ∷ 100 ∷ 0 ∷ 600 ∷ 100 ∷ 0 ∷ 100 ∷ 600 ∷ 0 ∷ 400 ∷ 0 ∷ 0 ∷ 400 ∷ 400 ∷ 0 ∷ 0 ∷ 400 ∷ 0 ∷ []))
     -- P5: the pillow is accepted; TWIN(0), EDGE(0), EDGE(11) and EDGE(15) of its level 1
-    ∷ P (numbersOf (checkCage pillow (corner 16)) ++ map pos (cell (drop 6 (pillowRefined .lent .twin)) 0 ∷ map (cell (drop 6 (pillowRefined .lent .edge))) (0 ∷ 11 ∷ 15 ∷ [])))
+    ∷ P
+    (numbersOf (checkCage pillow (corner 16))
+    ++ map pos (cell (drop 6 (pillowRefined .lent .twin)) 0 ∷ map (cell (drop 6 (pillowRefined .lent .edge))) (0 ∷ 11 ∷ 15 ∷ [])))
     (map pos (0 ∷ 0 ∷ 11 ∷ 1 ∷ 1 ∷ 0 ∷ []))
     -- P6: vertex 0 and edge 0's point
     ∷ P (take 3 (drop 9 (pillowRefined .points)) ++ take 3 (drop 18 (pillowRefined .points))) (map pos (3 ∷ 3 ∷ 0 ∷ 6 ∷ 4 ∷ 0 ∷ []))

@@ -5,7 +5,7 @@ ghost use Rattle.io.specs.Counts.{Counts};
 ghost use Rattle.laws.specs.Below.{endToEnd};
 ghost use Rattle.halfedges.specs.Cage.{most-depth};
 ghost use Rattle.text.specs.Replies.{Says};
-ghost use Rattle.text.specs.Put.{Put, Replied};
+ghost use Rattle.text.specs.Internal.Put.{Put, Replied};
 ghost use Rattle.counter.specs.Counting.{countLine, countLines, counting, countReply};
 use crate::question;
 use crate::question::Question;

@@ -3,7 +3,8 @@ use Prim.Native.Nat.{ℕ, zero, suc, _*_, _^_, _≤_, _<_}
 use native.Mathlib.Nat.{pow-suc, pow-le-pow-right, mul-le-mul-right}
 use native.Mathlib.Omega.{arith}
 use Rattle.halfedges.specs.declared.table.HalfedgeTable.{HalfedgeTable}
-use Rattle.halfedges.specs.Counts.{AtMost, countsAt}
+use Rattle.halfedges.specs.Internal.Counts.{AtMost}
+use Rattle.halfedges.specs.Counts.{countsAt}
 
 -- a level's counts grow fourfold at most
 pub level-at-most : (m : ℕ) (t : HalfedgeTable) → AtMost m t → (k : ℕ) → AtMost (4 ^ k * m) (countsAt t k)

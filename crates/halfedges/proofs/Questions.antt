@@ -11,7 +11,8 @@ use Rattle.laws.proofs.Tests.{or-false₃}
 use Rattle.halfedges.specs.declared.table.HalfedgeTable.{HalfedgeTable}
 use Rattle.halfedges.specs.Cage.{most-halfedges, most-vertices, most-depth}
 use Rattle.halfedges.specs.Refusals.{DONE, SHAPE, LIMIT, given, first, said}
-use Rattle.halfedges.specs.Counts.{AtMost, levels, refusedCount, countShape, aboveLimit, countQuestion}
+use Rattle.halfedges.specs.Internal.Counts.{AtMost, refusedCount}
+use Rattle.halfedges.specs.Counts.{levels, countShape, aboveLimit, countQuestion}
 use Rattle.halfedges.specs.Corners.{corners, cornerShape, cornerQuestion, noCorners}
 
 -- what refusal 2 leaves

@@ -1,5 +1,5 @@
 -- Document 01, "One level to the next": the counts, and the count question.
-use Prim.Native.Nat.{ℕ, zero, suc, _+_, _*_, _%_, _≤_}
+use Prim.Native.Nat.{ℕ, zero, suc, _+_, _*_, _%_}
 use mathlib.Core.Bool.{Bool, cond, not, _||_}
 use mathlib.Core.List.{List, [], _∷_}
 use lib.Dec.{eqb, leb, ltb}
@@ -8,13 +8,7 @@ use Rattle.halfedges.specs.declared.table.Levels.{Levels}
 use Rattle.halfedges.specs.declared.table.Counted.{Counted}
 use Rattle.laws.specs.Below.{tabulate, sum}
 use Rattle.halfedges.specs.Cage.{most-halfedges, most-vertices, most-depth}
-use Rattle.halfedges.specs.Refusals.{Verdict, SHAPE, LIMIT, told, given, first, Said, said}
-
--- H, E and V are at most m
-pub record AtMost (m : ℕ) (t : HalfedgeTable) : Type 0 where
-  pub halfedges : t .halfedges ≤ m
-  pub edges : t .edges ≤ m
-  pub vertices : t .vertices ≤ m
+use Rattle.halfedges.specs.Refusals.{SHAPE, LIMIT, told, given, first, Said, said}
 
 -- "H becomes 4H, .. E becomes 2E+H, V becomes V+E"
 abbrev pub finer : HalfedgeTable → HalfedgeTable
@@ -58,15 +52,23 @@ levels t depth =
     }
 
 abbrev pub noLevels : Levels
-noLevels = record { halfedges = tabulate 7 (λ _. 0); edges = tabulate 7 (λ _. 0); vertices = tabulate 7 (λ _. 0); «halfedge_room» = 0; «vertex_room» = 0 }
-
--- a refusal with v's number and place
-abbrev pub refusedCount : Verdict → Said Levels
-refusedCount v = record { verdict = v; values = noLevels }
+noLevels =
+    record {
+      halfedges = tabulate 7 (λ _. 0);
+      edges = tabulate 7 (λ _. 0);
+      vertices = tabulate 7 (λ _. 0);
+      «halfedge_room» = 0;
+      «vertex_room» = 0;
+    }
 
 -- 1 "count question: H 0 or no multiple of 3, V is 0, E > H or 2E < H"
 unfoldable pub countShape : HalfedgeTable → Bool
-countShape t = eqb (t .halfedges) 0 || not (eqb (t .halfedges % 3) 0) || eqb (t .vertices) 0 || ltb (t .halfedges) (t .edges) || ltb (2 * t .edges) (t .halfedges)
+countShape t =
+    eqb (t .halfedges) 0
+    || not (eqb (t .halfedges % 3) 0)
+    || eqb (t .vertices) 0
+    || ltb (t .halfedges) (t .edges)
+    || ltb (2 * t .edges) (t .halfedges)
 
 -- 2 "H, V or depth above its limit"
 unfoldable pub aboveLimit : ℕ → ℕ → ℕ → Bool

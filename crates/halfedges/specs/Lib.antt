@@ -2,3 +2,4 @@ pub mod Cage
 pub mod Refusals
 pub mod Counts
 pub mod Corners
+pub mod Internal

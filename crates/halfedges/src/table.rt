@@ -3,7 +3,8 @@ ghost use mathlib.Core.Path.{_≡_};
 ghost use Prim.Native.Nat.{_≤_, _<_, _^_};
 ghost use Rattle.halfedges.specs.Cage.{NEXT, PREV, most-halfedges, most-depth};
 ghost use Rattle.halfedges.specs.Refusals.{told};
-ghost use Rattle.halfedges.specs.Counts.{AtMost, finer as Counts·finer, levels as Counts·levels, noLevels, refusedCount, countShape, aboveLimit, countQuestion, counted};
+ghost use Rattle.halfedges.specs.Internal.Counts.{AtMost, refusedCount};
+ghost use Rattle.halfedges.specs.Counts.{finer as Counts·finer, levels as Counts·levels, noLevels, countShape, aboveLimit, countQuestion, counted};
 use crate::answer::Answer;
 
 // The counts of one level's halfedge table: H, E and V.

@@ -12,11 +12,11 @@ use Rattle.halfedges.specs.declared.table.HalfedgeTable.{HalfedgeTable}
 use Rattle.halfedges.specs.Cage.{marker, most-halfedges, most-vertices, most-depth, B}
 use Rattle.halfedges.specs.Refusals.{DONE, first}
 use Rattle.halfedges.specs.Counts.{countsAt, Hs, Vs, aboveLimit}
-use Rattle.connectivity.specs.Tables.{Tables, countsOf}
-use Rattle.connectivity.specs.Ruled.{Shaped, Ruled}
-use Rattle.connectivity.specs.NextLevel.{next, level}
-use Rattle.connectivity.specs.Operations.{tableChecks}
-use Rattle.connectivity.proofs.Accepted.{rules-done, whole-meaning}
+use Rattle.tables.specs.Tables.{Tables, countsOf}
+use Rattle.tables.specs.Ruled.{Shaped, Ruled}
+use Rattle.splitting.specs.NextLevel.{next, level}
+use Rattle.tables.specs.Check.{tableChecks}
+use Rattle.tables.proofs.Accepted.{rules-done, whole-meaning}
 use Rattle.invariance.specs.Invariance.{verticesIn, Added, Invariant}
 use Rattle.invariance.proofs.Refinable.{H}
 use Rattle.invariance.proofs.VertexCount.{vertices-counted}

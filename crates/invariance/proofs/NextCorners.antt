@@ -16,9 +16,9 @@ use Rattle.laws.proofs.Tests.{same-eqb}
 use Rattle.laws.proofs.Sums.{sum-same, sum-add, sum-none, sum-at}
 use Rattle.laws.proofs.Turnings.{turned-back, sum-turned}
 use Rattle.halfedges.specs.Cage.{NEXT, PREV, marker, E}
-use Rattle.connectivity.specs.Tables.{Tables}
+use Rattle.tables.specs.Tables.{Tables}
 use Rattle.halfedges.proofs.Triangle.{next-0, next-2, prev-next, next-prev, round}
-use Rattle.connectivity.proofs.EdgeCount.{carried}
+use Rattle.tables.proofs.EdgeCount.{carried}
 use Rattle.invariance.specs.Invariance.{cornersAt, OnBorder, Added}
 use Rattle.invariance.proofs.Rows.{Row, out, across, home, middle, row-of, sum-rows}
 use Rattle.invariance.proofs.Refinable.{H, TWIN, VERT, EDGE, finer, Refinable, next-in, prev-in, length-twins, vert-rows}

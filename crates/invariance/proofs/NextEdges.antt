@@ -6,10 +6,10 @@ use mathlib.Core.Bool.{Bool, true, false, cond, not}
 use native.Mathlib.Omega.{arith}
 use lib.ListN.{length}
 use Rattle.halfedges.specs.Cage.{NEXT, PREV, marker, above, E}
-use Rattle.connectivity.specs.Tables.{Tables}
-use Rattle.connectivity.specs.Ruled.{Numbered}
+use Rattle.tables.specs.Tables.{Tables}
+use Rattle.tables.specs.Ruled.{Numbered}
 use Rattle.halfedges.proofs.Triangle.{prev-next, next-prev}
-use Rattle.connectivity.proofs.EdgeCount.{above-twin}
+use Rattle.tables.proofs.EdgeCount.{above-twin}
 use Rattle.invariance.proofs.Rows.{Rows, Row, out, across, home, middle, row-of}
 use Rattle.invariance.proofs.Refinable.{H, TWIN, EDGE, finer, Refinable, next-in, prev-in, length-twins, edge-rows}
 use Rattle.invariance.proofs.NextTwins.{out-border, out-inner, across-twin, home-border, home-inner, middle-twin, next-paired, next-edges}

@@ -5,9 +5,9 @@ use mathlib.Core.Path.{_≡_, refl, sym, subst, _∙_}
 use mathlib.Core.Logic.{_≢_, _⊎_, inl, inr}
 use native.Mathlib.Omega.{arith}
 use Rattle.halfedges.specs.Cage.{NEXT, PREV, marker}
-use Rattle.connectivity.specs.Tables.{Tables}
-use Rattle.connectivity.specs.Fans.{link, Joined, itself, linked, back, on}
-use Rattle.connectivity.specs.Ruled.{Fanned}
+use Rattle.tables.specs.Tables.{Tables}
+use Rattle.tables.specs.Fans.{link, Joined, itself, linked, back, on}
+use Rattle.tables.specs.Ruled.{Fanned}
 use Rattle.halfedges.proofs.Triangle.{prev-next, prev-0, prev-1, prev-2, prev-past}
 use Rattle.invariance.proofs.Rows.{Row, out, across, home, middle, row-of}
 use Rattle.invariance.proofs.Refinable.{H, TWIN, VERT, EDGE, finer, Refinable, next-in, prev-in, length-twins, length-verts, vert-rows}

@@ -4,8 +4,8 @@ use mathlib.Core.Path.{_≡_, refl, sym, ap, _∙_}
 use native.Mathlib.Nat.{mul-mod-right}
 use native.Mathlib.Omega.{arith}
 use Rattle.halfedges.specs.Cage.{E, B}
-use Rattle.connectivity.specs.Tables.{Tables}
-use Rattle.connectivity.specs.Ruled.{Shaped, Ruled}
+use Rattle.tables.specs.Tables.{Tables}
+use Rattle.tables.specs.Ruled.{Shaped, Ruled}
 use Rattle.invariance.specs.Invariance.{cornersAt, OnBorder, Added}
 use Rattle.invariance.proofs.Refinable.{H, finer, Refinable, length-twins, length-verts, length-edges}
 use Rattle.invariance.proofs.NextTwins.{next-paired, next-borders, next-edges}

@@ -17,10 +17,10 @@ use Rattle.laws.proofs.Tests.{same-eqb}
 use Rattle.laws.proofs.Sums.{sum-same, sum-add, sum-none}
 use Rattle.laws.proofs.Turnings.{turned-back, sum-turned}
 use Rattle.halfedges.specs.Cage.{NEXT, PREV, marker, border, E, B}
-use Rattle.connectivity.specs.Tables.{Tables}
-use Rattle.connectivity.specs.Ruled.{Paired}
+use Rattle.tables.specs.Tables.{Tables}
+use Rattle.tables.specs.Ruled.{Paired}
 use Rattle.halfedges.proofs.Triangle.{prev-next, next-prev, round}
-use Rattle.connectivity.proofs.EdgeCount.{twin-has-twin, twice-edges}
+use Rattle.tables.proofs.EdgeCount.{twin-has-twin, twice-edges}
 use Rattle.invariance.proofs.Rows.{Row, out, across, home, middle, row-of, sum-rows}
 use Rattle.invariance.proofs.Refinable.{H, TWIN, finer, Refinable, next-in, prev-in, length-twins, twin-rows}
 

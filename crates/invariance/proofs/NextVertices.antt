@@ -6,10 +6,10 @@ use native.Mathlib.Decide.{decLt}
 use native.Mathlib.Omega.{arith}
 use lib.ListN.{length}
 use Rattle.halfedges.specs.Cage.{NEXT, PREV, marker, E}
-use Rattle.connectivity.specs.Tables.{Tables}
-use Rattle.connectivity.specs.Ruled.{Placed, Used}
+use Rattle.tables.specs.Tables.{Tables}
+use Rattle.tables.specs.Ruled.{Placed, Used}
 use Rattle.halfedges.proofs.Triangle.{next-0, next-1, next-2, next-past, prev-next, next-prev, next-next}
-use Rattle.connectivity.proofs.EdgeCount.{carried}
+use Rattle.tables.proofs.EdgeCount.{carried}
 use Rattle.invariance.proofs.Rows.{Row, out, across, home, middle, row-of}
 use Rattle.invariance.proofs.Refinable.{H, TWIN, VERT, EDGE, finer, Refinable, next-in, prev-in, length-twins, length-verts, vert-rows}
 use Rattle.invariance.proofs.NextTwins.{out-border, out-inner, across-twin, home-border, home-inner, middle-twin}

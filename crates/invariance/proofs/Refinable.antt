@@ -7,9 +7,9 @@ use mathlib.Core.Bool.{cond}
 use lib.ListN.{length}
 use Rattle.laws.proofs.Tabulate.{length-tabulate}
 use Rattle.halfedges.specs.Cage.{NEXT, PREV, marker, cell, above, E}
-use Rattle.connectivity.specs.Tables.{Tables, countsOf}
-use Rattle.connectivity.specs.Ruled.{Shaped, Ruled}
-use Rattle.connectivity.specs.NextLevel.{whereTwin, newTwin, newVert, newEdge, nextTwins, nextVerts, nextEdges, next}
+use Rattle.tables.specs.Tables.{Tables, countsOf}
+use Rattle.tables.specs.Ruled.{Shaped, Ruled}
+use Rattle.splitting.specs.NextLevel.{whereTwin, newTwin, newVert, newEdge, nextTwins, nextVerts, nextEdges, next}
 use Rattle.halfedges.proofs.Triangle.{next-below, prev-below}
 use Rattle.invariance.proofs.Rows.{Rows, rows-hold}
 

@@ -12,7 +12,7 @@ use Rattle.laws.specs.Below.{tabulate, sum}
 use Rattle.laws.proofs.Tabulate.{getD-tabulate}
 use Rattle.laws.proofs.Sums.{sum-split, sum-triples}
 use Rattle.halfedges.specs.Cage.{cell}
-use Rattle.connectivity.specs.NextLevel.{rows}
+use Rattle.splitting.specs.NextLevel.{rows}
 
 -- 3h goes out from h's vertex, 3h+1 across the corner, 3h+2 home to the vertex, and 3H+h stands in the middle
 pub record Rows (table : List ℕ) (H : ℕ) (r₀ r₁ r₂ r₃ : ℕ → ℕ) : Type 0 where

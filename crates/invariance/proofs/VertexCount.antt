@@ -22,11 +22,11 @@ use Rattle.laws.proofs.Sums.{sum-same, sum-add, sum-ones, sum-triples}
 use Rattle.laws.proofs.Turnings.{sum-turned}
 use Rattle.laws.proofs.Pigeonhole.{some-counted, count-at-most-one, sum-of-counts, and-both}
 use Rattle.halfedges.specs.Cage.{NEXT, F, marker, cell, border}
-use Rattle.connectivity.specs.Tables.{Tables, leaves}
-use Rattle.connectivity.specs.Ruled.{Shaped, Ruled}
+use Rattle.tables.specs.Tables.{Tables, leaves}
+use Rattle.tables.specs.Ruled.{Shaped, Ruled}
 use Rattle.halfedges.proofs.Triangle.{next-0, next-1, next-2, round}
-use Rattle.connectivity.proofs.Joined.{one-border}
-use Rattle.connectivity.proofs.EdgeCount.{twin-has-twin, partner, partner-border, partner-inner, pairing}
+use Rattle.tables.proofs.Joined.{one-border}
+use Rattle.tables.proofs.EdgeCount.{twin-has-twin, partner, partner-border, partner-inner, pairing}
 use Rattle.invariance.specs.Invariance.{verticesIn, cornersAt}
 use Rattle.invariance.proofs.Refinable.{H, TWIN, VERT}
 

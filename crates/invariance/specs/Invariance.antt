@@ -10,10 +10,10 @@ use Rattle.halfedges.specs.declared.table.HalfedgeTable.{HalfedgeTable}
 use Rattle.halfedges.specs.Cage.{NEXT, F, marker, cell, E, B}
 use Rattle.halfedges.specs.Refusals.{DONE, first}
 use Rattle.halfedges.specs.Counts.{Hs, Es, Vs, roomH, roomV}
-use Rattle.connectivity.specs.Tables.{Tables, leaves}
-use Rattle.connectivity.specs.Ruled.{Shaped, Ruled}
-use Rattle.connectivity.specs.NextLevel.{level}
-use Rattle.connectivity.specs.Operations.{rules}
+use Rattle.tables.specs.Tables.{Tables, leaves}
+use Rattle.tables.specs.Ruled.{Shaped, Ruled}
+use Rattle.splitting.specs.NextLevel.{level}
+use Rattle.tables.specs.Check.{rules}
 
 -- the vertices in a VERT table: a vertex is counted at the lowest halfedge that leaves it
 unfoldable pub verticesIn : List ℕ → ℕ

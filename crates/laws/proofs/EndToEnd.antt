@@ -12,7 +12,8 @@ use native.Mathlib.Omega.{arith}
 use lib.ListN.{length, take, drop, length-append, length-take}
 use lib.Seq.{take-add, take-take, take-append-seam, drop-append-seam, drop-append-add, drop-drop}
 use Rattle.laws.specs.Below.{endToEnd, sum}
-use Rattle.laws.specs.Parts.{part, inFront}
+use Rattle.laws.specs.Internal.Parts.{part}
+use Rattle.laws.specs.Parts.{inFront}
 
 module _ {A : Type 0} where
   pub length-endToEnd : (n : ℕ) (f : ℕ → List A) → length (endToEnd n f) ≡ sum n (λ k. length (f k))

@@ -9,7 +9,8 @@ use native.Mathlib.Omega.{arith}
 use lib.ListN.{length, getD, set, take}
 use lib.Seq.{length-take-le, take-suc}
 use Rattle.laws.specs.Below.{tabulate}
-use Rattle.laws.specs.Parts.{inFront, splice}
+use Rattle.laws.specs.Parts.{inFront}
+use Rattle.laws.specs.Internal.Parts.{splice}
 use Rattle.laws.proofs.Tabulate.{length-tabulate}
 use Rattle.laws.proofs.Chunks.{flatMap-append, length-flatMap}
 use Rattle.laws.proofs.Splice.{over-more, splice-one}

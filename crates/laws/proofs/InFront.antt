@@ -8,7 +8,8 @@ use native.Mathlib.Numerals.{add-one}
 use native.Mathlib.Omega.{arith}
 use lib.ListN.{length, getD, drop, set}
 use lib.Seq.{paste, paste-suc, take-length, take-append-seam, drop-append-add, drop-drop}
-use Rattle.laws.specs.Parts.{part, inFront}
+use Rattle.laws.specs.Internal.Parts.{part}
+use Rattle.laws.specs.Parts.{inFront}
 
 module _ {A : Type 0} (cells xs : List A) where
   pub copied-more : (k : ℕ) (z : A) → k < length xs → k < length cells → set (paste xs 0 cells k) k (getD cells k z) ≡ paste xs 0 cells (k + 1)

@@ -20,3 +20,4 @@ pub mod Chunks
 pub mod Splice
 pub mod Signs
 pub mod Filling
+pub mod Totals

@@ -5,7 +5,8 @@ use mathlib.Core.List.{List}
 use native.Mathlib.Omega.{arith}
 use lib.ListN.{length, getD, drop, length-append, length-take, length-drop}
 use lib.Seq.{getD-take, getD-drop}
-use Rattle.laws.specs.Parts.{part, inFront}
+use Rattle.laws.specs.Internal.Parts.{part}
+use Rattle.laws.specs.Parts.{inFront}
 
 module _ {A : Type 0} (xs : List A) (at n : ℕ) where
   pub length-part : at + n ≤ length xs → length (part xs at n) ≡ n

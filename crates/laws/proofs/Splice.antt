@@ -12,7 +12,8 @@ use native.Mathlib.Numerals.{add-one}
 use lib.ListN.{length, set, take, drop, length-append, length-drop, drop-of-length-le}
 use lib.Seq.{set-split, sets-eq, length-take-le, drop-drop, take-at, drop-at, take-all, take-append-add, drop-append-add}
 use borrow.Rule.Slice.PartMut.{putMid, midOf}
-use Rattle.laws.specs.Parts.{inFront, splice}
+use Rattle.laws.specs.Parts.{inFront}
+use Rattle.laws.specs.Internal.Parts.{splice}
 
 module _ {A : Type 0} where
   over-splice : (l x y : List A) → splice (inFront x l) (length x) y ≡ inFront (x ++ y) l

@@ -1,10 +1,11 @@
 -- Laws of steps taken one after the other: `steps-none`, `steps-more`, `steps-on`, `steps-end`, `steps-three`, `steps-three-on`,
--- and induction, `steps-keep`. Assumes nothing.
-use Prim.Native.Nat.{ℕ, zero, suc, _+_, _*_, _≤_, _<_}
+-- in two parts, `steps-add`, `steps-on-from`, and induction, `steps-keep`. Assumes nothing.
+use Prim.Native.Nat.{ℕ, zero, suc, _+_, _-_, _*_, _≤_, _<_}
 use mathlib.Core.Path.{_≡_, refl, sym, ap, _∙_}
+use native.Mathlib.Nat.{add-zero, add-suc}
 use native.Mathlib.Numerals.{add-one}
 use native.Mathlib.Omega.{arith}
-use Rattle.laws.specs.Steps.{steps}
+use Rattle.laws.specs.Internal.Steps.{steps}
 
 module _ {A : Type 0} (f : ℕ → A → A) (x : A) where
   pub steps-none : steps 0 f x ≡ x
@@ -40,3 +41,15 @@ module _ {A : Type 0} (f : ℕ → A → A) (x : A) where
   unfolding steps
   steps-keep P n start step zero l = start
   steps-keep P n start step (suc i) l = step i l (steps i f x) (steps-keep P n start step i (omega arith))
+
+-- steps in two parts
+pub steps-add : {A : Type 0} (f : ℕ → A → A) (x : A) (m n : ℕ) → steps (m + n) f x ≡ steps n (λ j. f (m + j)) (steps m f x)
+unfolding steps
+steps-add f x m zero = ap (λ k. steps k f x) (add-zero m)
+steps-add f x m (suc n) = ap (λ k. steps k f x) (add-suc m n) ∙ ap (f (m + n)) (steps-add f x m n)
+
+-- a turn of the second part
+pub steps-on-from : {A : Type 0} (f : ℕ → A → A) (x : A) (m i : ℕ) {y z : A} → m ≤ i → y ≡ steps (i - m) (λ j. f (m + j)) x → z ≡ f i y → z ≡ steps (i + 1 - m) (λ j. f (m + j)) x
+steps-on-from f x m i {y} l e d =
+    let at : i ≡ m + (i - m) = omega arith in
+    steps-end (λ j. f (m + j)) x (steps-on (λ j. f (m + j)) x (i - m) e (d ∙ ap (λ k. f k y) at)) (omega arith)

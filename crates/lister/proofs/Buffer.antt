@@ -7,8 +7,8 @@ use native.Mathlib.Omega.{arith}
 use lib.ListN.{length, take}
 use lib.Seq.{take-all}
 use borrow.Author.Tests.{ne-eqb}
-use Rattle.cagefile.specs.Reading.{readVerdict}
-use Rattle.cagefile.proofs.Prefix.{too-long, longer-alike}
+use Rattle.reading.specs.Reading.{readVerdict}
+use Rattle.filelaws.proofs.Prefix.{too-long, longer-alike}
 use Rattle.lister.specs.Listing.{longest, roomy, roomyPoints, listing}
 
 pub front-listed : (f : List ℕ) (n : ℕ) → longest < n → listing (take n f) ≡ listing f

@@ -11,11 +11,11 @@ use Rattle.laws.specs.Below.{endToEnd}
 use Rattle.halfedges.specs.declared.table.Levels.{Levels}
 use Rattle.halfedges.specs.Cage.{most-halfedges, F}
 use Rattle.text.specs.Lines.{decimal, space, newline, ended, line, countWords}
-use Rattle.text.specs.Put.{Put}
+use Rattle.text.specs.Internal.Put.{Put}
 use Rattle.text.proofs.Texts.{put-more}
 use Rattle.text.proofs.Words.{ended-more}
 use Rattle.lister.specs.Listing.{levelLine}
-use Rattle.lister.specs.Doubling.{doubled}
+use Rattle.lister.specs.Internal.Doubling.{doubled}
 
 pub few-doubled : (b k : ℕ) → b ≤ most-halfedges → k ≤ 7 → doubled b k ≤ 393216
 few-doubled b k l m = mul-le-mul (pow-le-pow-right {n = 2} (omega arith) m) l

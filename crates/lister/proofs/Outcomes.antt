@@ -15,25 +15,27 @@ use Rattle.halfedges.specs.declared.table.HalfedgeTable.{HalfedgeTable}
 use Rattle.halfedges.specs.declared.table.Levels.{Levels}
 use Rattle.halfedges.specs.Cage.{most-halfedges, most-vertices, most-depth, border, above, E, B}
 use Rattle.halfedges.specs.Refusals.{DONE, told, first, said}
-use Rattle.halfedges.specs.Counts.{AtMost, levels}
+use Rattle.halfedges.specs.Internal.Counts.{AtMost}
+use Rattle.halfedges.specs.Counts.{levels}
 use Rattle.halfedges.proofs.Checks.{done-both}
 use Rattle.halfedges.proofs.Told.{zero-done}
-use Rattle.connectivity.specs.declared.check.Checked.{Checked}
-use Rattle.connectivity.specs.Tables.{Tables, tables, countsOf}
-use Rattle.connectivity.specs.Operations.{returned, acceptedCheck, checked, tableChecks, shortTables}
+use Rattle.tables.specs.declared.check.Checked.{Checked}
+use Rattle.tables.specs.Tables.{Tables, tables, countsOf}
+use Rattle.tables.specs.Check.{returned, checked, tableChecks}
+use Rattle.levels.specs.Refining.{shortTables}
 use Rattle.points.specs.Operations.{vertices, cageChecks, checkCage}
 use Rattle.invariance.proofs.Levels.{accepted}
 use Rattle.cage.proofs.CageChecks.{checks-then}
-use Rattle.cagefile.specs.declared.reading.Reading.{Reading}
-use Rattle.cagefile.specs.Reading.{HIn, VIn, twinsIn, vertsIn, edgesIn, pointsIn, readVerdict, readFile, reported}
+use Rattle.reading.specs.declared.Reading.{Reading}
+use Rattle.reading.specs.Reading.{HIn, VIn, twinsIn, vertsIn, edgesIn, pointsIn, readVerdict, readFile, reported}
 use Rattle.cagefile.proofs.Fits.{Fits}
-use Rattle.cagefile.proofs.Accepted.{accepted-fits}
-use Rattle.cagefile.proofs.Outcomes.{allRead, read-done, twins-length, verts-length, edges-length, points-length}
-use Rattle.cagefile.proofs.Verdict.{read-sound}
+use Rattle.writing.proofs.Accepted.{accepted-fits}
+use Rattle.reading.proofs.Outcomes.{allRead, read-done, twins-length, verts-length, edges-length, points-length}
+use Rattle.reading.proofs.Verdict.{read-sound}
 use Rattle.text.specs.Lines.{roomLine}
 use Rattle.text.specs.Replies.{answered, refused}
 use Rattle.lister.specs.Listing.{levelBorders, levelLines, cageListing, roomy, roomyPoints, listing}
-use Rattle.lister.specs.Doubling.{doubled}
+use Rattle.lister.specs.Internal.Doubling.{doubled}
 use Rattle.lister.proofs.Lines.{lines-alike}
 
 -- ---- a cage
@@ -54,7 +56,7 @@ module _ (c : Tables) (points : List ℤ) (r : Checked) (e : checked r ≡ check
     unfolding checkCage said
     done = sym (ap (λ s. s .verdict) e) ∙ zero-done (r .answer) z
 
-    accepted-check : checked r ≡ acceptedCheck (c .twin) (vertices points)
+    accepted-check : checked r ≡ record { verdict = DONE; values = returned (c .twin) (vertices points) }
     unfolding checkCage said
     accepted-check = e ∙ rw done
 

@@ -9,10 +9,10 @@ use Rattle.halfedges.specs.declared.table.Levels.{Levels}
 use Rattle.halfedges.specs.Cage.{most-halfedges, most-vertices, most-depth, B}
 use Rattle.halfedges.specs.Refusals.{whenDone}
 use Rattle.halfedges.specs.Counts.{levels}
-use Rattle.connectivity.specs.Tables.{Tables, tables, countsOf}
-use Rattle.connectivity.specs.NextLevel.{level}
+use Rattle.tables.specs.Tables.{Tables, tables, countsOf}
+use Rattle.splitting.specs.NextLevel.{level}
 use Rattle.points.specs.Operations.{vertices, checkCage}
-use Rattle.cagefile.specs.Reading.{twinsIn, vertsIn, edgesIn, pointsIn, readVerdict}
+use Rattle.reading.specs.Reading.{twinsIn, vertsIn, edgesIn, pointsIn, readVerdict}
 use Rattle.text.specs.Lines.{decimal, line, levelWords, roomLine}
 use Rattle.text.specs.Replies.{Reply, answered, refused}
 

@@ -6,12 +6,12 @@ ghost use lib.ListN.{length};
 ghost use Rattle.io.specs.Counts.{Counts};
 ghost use Rattle.laws.specs.Below.{endToEnd};
 ghost use Rattle.halfedges.specs.Cage.{most-halfedges, most-vertices};
-ghost use Rattle.connectivity.specs.Tables.{tables};
+ghost use Rattle.tables.specs.Tables.{tables};
 ghost use Rattle.text.specs.Lines.{decimal, line, countWords};
 ghost use Rattle.text.specs.Replies.{Says};
-ghost use Rattle.text.specs.Put.{Put, Replied};
+ghost use Rattle.text.specs.Internal.Put.{Put, Replied};
 ghost use Rattle.lister.specs.Listing.{levelLine, levelLines, cageListing, listing};
-ghost use Rattle.lister.specs.Doubling.{doubled};
+ghost use Rattle.lister.specs.Internal.Doubling.{doubled};
 use halfedges::table::HalfedgeTable;
 use halfedges::table::Levels;
 use text::lines;
@@ -43,7 +43,7 @@ fn list_file(
         × (length (now points) ≡ 3 * most-vertices) × (1024 ≤ length (now out)) ⌝ }
     ensures { λ r. ⌜ Replied (now (out .entry)) 1024 (listing (now (file .entry))) (now (out .exit)) r ⌝ }
 {
-    let reading = cagefile::reading::read(file, &mut *twin, &mut *vert, &mut *edge, &mut *points);
+    let reading = reading::read(file, &mut *twin, &mut *vert, &mut *edge, &mut *points);
     let answer = reading.answer;
     if answer.number() != 0 {
         return replies::put_refusal(&mut *out, answer);

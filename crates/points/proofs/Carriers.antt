@@ -13,7 +13,7 @@ use borrow.Author.Tests.{eq-eqb, ne-eqb, lt-ltb, eqb-true, ltb-true}
 use Rattle.laws.proofs.Lowest.{lowest-at-most, lowest-passes}
 use Rattle.halfedges.specs.Cage.{marker, cell, border}
 use Rattle.points.specs.NextPoints.{carrier}
-use Rattle.points.specs.Relied.{Carried}
+use Rattle.points.specs.Internal.Relied.{Carried}
 
 -- h has no twin or a twin with a higher number: it is the lowest that carries its edge
 abbrev pub lowest-carrier : List ℕ → ℕ → Bool

@@ -1,55 +1,28 @@
 -- Sums over a vertex's spokes and creases, halfedge by halfedge. Assumes nothing.
 --     spokeSum, spokes-are, spokes-at-most       the spokes' far ends: their sum, and how large it is
 --     creaseSum, creases-are, creases-at-most    the same of the ends of border edges
---     scan-more                                  one halfedge more
 --     corners-counted, creases-counted           how many there are
 --     tally-lists                                the corners as a tally has them
-use Prim.Native.Nat.{ℕ, zero, suc, _+_, _*_, _≤_, _<_}
-use mathlib.Core.Path.{_≡_, refl, sym, ap, _∙_}
-use mathlib.Core.Bool.{Bool, true, false, cond}
-use mathlib.Core.List.{List, [], _∷_, _++_, map, map-append, map-map}
-use native.Mathlib.Nat.{add-zero, mul-add, mul-one}
+--     far-below                                  a halfedge ends at a vertex
+use Prim.Native.Nat.{ℕ, _+_, _*_, _≤_, _<_}
+use mathlib.Core.Path.{_≡_, sym, ap, _∙_}
+use mathlib.Core.List.{List, map, map-append, map-map}
 use native.Mathlib.Omega.{arith}
-use lib.IntN.{ℤ, pos, natAbs, _+ℤ_, +ℤ-idl, +ℤ-idr, +ℤ-assoc}
+use lib.IntN.{ℤ, natAbs, _+ℤ_}
 use lib.ListN.{length, take, length-append, length-map}
 use lib.Seq.{getD-take, length-take-le, ext-getD}
 use Rattle.laws.specs.Below.{tabulate, count, select}
 use Rattle.laws.proofs.Integers.{natAbs-add}
 use Rattle.laws.proofs.Select.{length-select}
 use Rattle.laws.proofs.Tabulate.{length-tabulate, getD-tabulate}
-use Rattle.halfedges.specs.Cage.{cell}
-use Rattle.connectivity.specs.Tables.{leaves}
-use Rattle.connectivity.specs.Tally.{Tallied}
-use Rattle.points.specs.NextPoints.{coordinate, total, corners, far, spokeEnds, creaseEnds}
-use Rattle.points.specs.Relied.{borderLeaves, borderEnds}
-
-pub total-append : (xs ys : List ℤ) → total (xs ++ ys) ≡ total xs +ℤ total ys
-total-append [] ys = sym (+ℤ-idl _)
-total-append (x ∷ xs) ys = ap (λ z. x +ℤ z) (total-append xs ys) ∙ sym (+ℤ-assoc x (total xs) (total ys))
-
--- the sum of f over the numbers below n that pass p
-abbrev pub scan : (ℕ → ℤ) → (ℕ → Bool) → ℕ → ℤ
-scan f p n = total (map f (select n p))
-
-module _ (f : ℕ → ℤ) (p : ℕ → Bool) where
-  pub scan-more : (n : ℕ) → scan f p (suc n) ≡ scan f p n +ℤ cond (p n) (f n) (pos 0)
-  scan-more n =
-      ap total (map-append f (select n p) (cond (p n) (n ∷ []) []))
-      ∙ total-append (map f (select n p)) (map f (cond (p n) (n ∷ []) []))
-      ∙ ap (λ z. scan f p n +ℤ z) (by (p n))
-    where
-      by : (b : Bool) → total (map f (cond b (n ∷ []) [])) ≡ cond b (f n) (pos 0)
-      by true = +ℤ-idr (f n)
-      by false = refl
-
-  -- of numbers of at most m
-  pub scan-at-most : (m : ℕ) → ((h : ℕ) → natAbs (f h) ≤ m) → (n : ℕ) → natAbs (scan f p n) ≤ m * count n p
-  scan-at-most m small zero = omega arith
-  scan-at-most m small (suc n) = rw (scan-more n) (by (p n) (scan-at-most m small n))
-    where
-      by : (b : Bool) → natAbs (scan f p n) ≤ m * count n p → natAbs (scan f p n +ℤ cond b (f n) (pos 0)) ≤ m * (count n p + cond b 1 0)
-      by true ih = rw (mul-add m (count n p) 1) (omega (arith, ih, mul-one m, small n, natAbs-add (scan f p n) (f n)))
-      by false ih = rw (+ℤ-idr, add-zero) ih
+use Rattle.halfedges.specs.Cage.{NEXT, cell}
+use Rattle.tables.specs.Tables.{leaves}
+use Rattle.tables.specs.Internal.Tally.{Tallied}
+use Rattle.points.specs.NextPoints.{coordinate, corners, far, spokeEnds, creaseEnds}
+use Rattle.laws.specs.Totals.{total}
+use Rattle.points.specs.Internal.Relied.{Cornered, borderLeaves, borderEnds}
+use Rattle.halfedges.proofs.Triangle.{next-below}
+use Rattle.laws.proofs.Totals.{total-append, scan, scan-at-most}
 
 -- coordinate k, summed over the far ends of v's spokes among the halfedges below n
 abbrev pub spokeSum : List ℕ → List ℤ → ℕ → ℕ → ℕ → ℤ
@@ -116,3 +89,6 @@ tally-lists vert v tally l tallied =
     (λ i b.
     let li : i < v = rw long at b in
     getD-take v tally i 0 li ∙ tallied .each i (omega arith) ∙ sym (corners-counted vert i) ∙ sym (getD-tabulate v (λ u. length (corners vert u)) i 0 li))
+
+pub far-below : (vert : List ℕ) (n : ℕ) → Cornered vert n → (h : ℕ) → h < length vert → far vert h < n
+far-below vert n cornered h l = cornered .below (NEXT h) (next-below (cornered .whole) l)

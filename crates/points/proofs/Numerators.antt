@@ -16,7 +16,7 @@ use Rattle.rounding.proofs.Nearest.{round-at-most}
 use Rattle.rounding.proofs.Scaled.{scaled-sum, round-scaled}
 use Rattle.points.specs.PointRules.{E1, E2, V2, V3}
 use Rattle.points.specs.Operations.{most-coordinate}
-use Rattle.points.specs.Passes.{started, mark}
+use Rattle.points.specs.Internal.Parts.{started, mark}
 
 pub V3-is : (n : ℕ) (v s : ℤ) → V3 n v s ≡ round (pos (5 * n) *ℤ v +ℤ pos 3 *ℤ s) (8 * n)
 unfolding V3

@@ -13,11 +13,11 @@ use lib.Seq.{getD-set-same, getD-set-other, getD-take, length-take-le, ext-getD}
 use mir.Syntax.{w32}
 use mir.Val.{toZ, ofZ}
 use mir.Facts.{toZ-ofZ}
-use Rattle.laws.specs.Steps.{steps}
+use Rattle.laws.specs.Internal.Steps.{steps}
 use Rattle.laws.proofs.Integers.{small-fits, back-of}
 use Rattle.laws.proofs.Steps.{steps-keep}
 use Rattle.points.specs.Operations.{most-coordinate}
-use Rattle.points.specs.Passes.{value, put, xyz, Near}
+use Rattle.points.specs.Internal.Cells.{value, put, xyz, Near}
 
 -- a law of a point's three coordinates
 pub three : (P : ℕ → Type 0) → P 0 → P 1 → P 2 → (k : ℕ) → k < 3 → P k

@@ -13,11 +13,12 @@ use Rattle.laws.proofs.Tabulate.{length-tabulate, getD-tabulate}
 use Rattle.halfedges.specs.declared.table.HalfedgeTable.{HalfedgeTable}
 use Rattle.halfedges.specs.Cage.{border}
 use Rattle.halfedges.specs.Counts.{countsAt}
-use Rattle.connectivity.specs.Tables.{Tables}
-use Rattle.connectivity.specs.NextLevel.{level}
-use Rattle.points.specs.NextPoints.{coordinate, total, corners, spokeEnds, creaseEnds, vertexPoint, edgePoint, newPoint, nextPoints, levelPoints}
-use Rattle.points.specs.Operations.{most-coordinate}
-use Rattle.points.specs.Relied.{Relied, InRange}
+use Rattle.tables.specs.Tables.{Tables}
+use Rattle.splitting.specs.NextLevel.{level}
+use Rattle.points.specs.NextPoints.{coordinate, corners, spokeEnds, creaseEnds, vertexPoint, edgePoint, newPoint, nextPoints, levelPoints}
+use Rattle.laws.specs.Totals.{total}
+use Rattle.points.specs.Operations.{most-coordinate, InRange}
+use Rattle.points.specs.Internal.Relied.{Relied}
 use Rattle.points.proofs.Numerators.{E1-at-most, E2-at-most, V2-at-most, V3-at-most}
 use Rattle.points.proofs.Ends.{corners-counted, spokes-are, spokes-at-most, creases-are, creases-at-most}
 

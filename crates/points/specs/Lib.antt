@@ -1,6 +1,4 @@
 pub mod PointRules
 pub mod NextPoints
 pub mod Operations
-pub mod Relied
-pub mod Passes
-pub mod Levels
+pub mod Internal

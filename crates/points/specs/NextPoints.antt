@@ -1,26 +1,22 @@
 -- Document 01, "Points": a level's points from those of the level before.
 use Prim.Native.Nat.{ℕ, zero, suc, _+_, _-_, _*_, _/_, _%_}
 use mathlib.Core.Bool.{Bool, cond, _&&_}
-use mathlib.Core.List.{List, [], _∷_, _++_, map}
+use mathlib.Core.List.{List, _++_, map}
 use lib.Dec.{eqb, ltb}
-use lib.IntN.{ℤ, pos, _+ℤ_}
+use lib.IntN.{ℤ, pos}
 use lib.ListN.{length, getD}
 use Rattle.halfedges.specs.declared.table.HalfedgeTable.{HalfedgeTable}
 use Rattle.laws.specs.Below.{tabulate, select, lowest}
 use Rattle.halfedges.specs.Cage.{NEXT, PREV, cell, border}
 use Rattle.halfedges.specs.Counts.{countsAt}
-use Rattle.connectivity.specs.Tables.{Tables, leaves}
-use Rattle.connectivity.specs.NextLevel.{level}
+use Rattle.tables.specs.Tables.{Tables, leaves}
+use Rattle.splitting.specs.NextLevel.{level}
 use Rattle.points.specs.PointRules.{E1, E2, V2, V3}
+use Rattle.laws.specs.Totals.{total}
 
 -- "x, y, z per vertex": coordinate k of vertex v
 abbrev pub coordinate : List ℤ → ℕ → ℕ → ℤ
 coordinate points k v = getD points (3 * v + k) (pos 0)
-
--- the sum of a list
-abbrev pub total : List ℤ → ℤ
-total [] = pos 0
-total (z ∷ zs) = z +ℤ total zs
 
 -- the corners at v
 unfoldable pub corners : List ℕ → ℕ → List ℕ

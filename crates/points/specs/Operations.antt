@@ -1,5 +1,5 @@
 -- What the cage check and refining answer, and what they leave in every lent table.
-use Prim.Native.Nat.{ℕ, suc, _*_, _/_, _%_}
+use Prim.Native.Nat.{ℕ, suc, _*_, _/_, _%_, _≤_, _<_}
 use mathlib.Core.Bool.{Bool, not, _||_}
 use mathlib.Core.List.{List, [], _∷_, _++_}
 use lib.Dec.{eqb, ltb}
@@ -9,9 +9,10 @@ use Rattle.halfedges.specs.declared.table.Levels.{Levels}
 use Rattle.laws.specs.Below.{endToEnd}
 use Rattle.halfedges.specs.Refusals.{Verdict, SHAPE, LIMIT, POINT, given, givenAt, short, first, Said, said, filled}
 use Rattle.halfedges.specs.Counts.{noLevels, roomH, roomV, aboveLimit, countQuestion}
-use Rattle.connectivity.specs.Tables.{Tables, countsOf}
-use Rattle.connectivity.specs.Rules.{misshapen}
-use Rattle.connectivity.specs.Operations.{rules, returned, shortTables, filledTables, levelsEndToEnd}
+use Rattle.tables.specs.Tables.{Tables, countsOf}
+use Rattle.tables.specs.Rules.{misshapen}
+use Rattle.tables.specs.Check.{rules, returned}
+use Rattle.levels.specs.Refining.{shortTables, filledTables, levelsEndToEnd}
 use Rattle.points.specs.NextPoints.{levelPoints}
 
 -- "V is its length over three"
@@ -25,6 +26,10 @@ most-coordinate = 1048576
 -- 8 "a coordinate is out of range"
 unfoldable pub outOfRange : List ℤ → ℕ → Bool
 outOfRange points i = ltb most-coordinate (natAbs (getD points i (pos 0)))
+
+-- 8 in plain words: every coordinate is in range
+abbrev pub InRange : List ℤ → Type 0
+InRange points = (i : ℕ) → i < length points → natAbs (getD points i (pos 0)) ≤ most-coordinate
 
 -- rules 1 to 8 in number order
 unfoldable pub cageChecks : Tables → List ℤ → ℕ → List Verdict

@@ -1,8 +1,3 @@
-// The points of the levels, by document 01's point rules.
-mod cells;
-mod edges;
-pub mod level;
-pub mod levels;
+// The points: the four rules, and what a level's points are.
+pub mod cells;
 pub mod rules;
-mod spokes;
-mod vertices;

@@ -17,15 +17,16 @@ use Rattle.laws.proofs.EndToEnd.{part-of, starts-within, length-multiples}
 use Rattle.halfedges.specs.declared.table.HalfedgeTable.{HalfedgeTable}
 use Rattle.halfedges.specs.Refusals.{DONE}
 use Rattle.halfedges.specs.Counts.{countsAt, Vs, roomV}
-use Rattle.connectivity.specs.Tables.{Tables, tables, countsOf}
-use Rattle.connectivity.specs.NextLevel.{level}
-use Rattle.connectivity.specs.InPlace.{Sound, tablesInFront}
-use Rattle.connectivity.specs.Operations.{levelsEndToEnd}
-use Rattle.connectivity.proofs.Granted.{Granted, granted}
+use Rattle.tables.specs.Tables.{Tables, tables, countsOf}
+use Rattle.splitting.specs.NextLevel.{level}
+use Rattle.splitting.specs.Internal.InPlace.{Sound}
+use Rattle.levels.specs.Internal.Filling.{tablesInFront}
+use Rattle.levels.specs.Refining.{levelsEndToEnd}
+use Rattle.levels.proofs.Granted.{Granted, granted}
 use Rattle.points.specs.NextPoints.{corners, nextPoints, levelPoints}
 use Rattle.points.specs.Operations.{vertices, refineVerdict}
-use Rattle.points.specs.Relied.{Known}
-use Rattle.points.specs.Levels.{ReadyLevels, cageOf, withLevels}
+use Rattle.points.specs.Internal.Relied.{Known}
+use Rattle.passes.specs.Internal.Levels.{ReadyLevels, cageOf, withLevels}
 use Rattle.refining.proofs.Relying.{relied, known}
 use Rattle.refining.proofs.Refined.{whole, tables-done, in-range, both-done, points-roomy}
 

@@ -17,18 +17,20 @@ use Rattle.halfedges.specs.declared.table.HalfedgeTable.{HalfedgeTable}
 use Rattle.halfedges.specs.Cage.{most-halfedges, most-depth}
 use Rattle.halfedges.specs.declared.answer.Answer.{Answer}
 use Rattle.halfedges.specs.Refusals.{Verdict, DONE, SHAPE, POINT, ROOM, told, given, givenAt, short, first, said, filled}
-use Rattle.halfedges.specs.Counts.{AtMost, Vs, roomH, roomV, refusedCount, countQuestion}
+use Rattle.halfedges.specs.Internal.Counts.{AtMost, refusedCount}
+use Rattle.halfedges.specs.Counts.{Vs, roomH, roomV, countQuestion}
 use Rattle.halfedges.proofs.Growth.{levels-at-most}
 use Rattle.halfedges.proofs.Checks.{first-more, first-stops, done-both, done-passes, done-nowhere}
 use Rattle.halfedges.proofs.Told.{zero-done}
-use Rattle.connectivity.specs.Tables.{Tables, countsOf}
-use Rattle.connectivity.specs.Rules.{misshapen}
-use Rattle.connectivity.specs.InPlace.{tablesInFront}
-use Rattle.connectivity.specs.Operations.{tableChecks, shortTables, filledTables, levelsEndToEnd}
-use Rattle.connectivity.proofs.Granted.{granted}
+use Rattle.tables.specs.Tables.{Tables, countsOf}
+use Rattle.tables.specs.Rules.{misshapen}
+use Rattle.levels.specs.Internal.Filling.{tablesInFront}
+use Rattle.tables.specs.Check.{tableChecks}
+use Rattle.levels.specs.Refining.{shortTables, filledTables, levelsEndToEnd}
+use Rattle.levels.proofs.Granted.{granted}
 use Rattle.points.specs.NextPoints.{levelPoints}
 use Rattle.points.specs.Operations.{vertices, outOfRange, cageChecks, refineVerdict, refineCage}
-use Rattle.points.specs.Relied.{InRange}
+use Rattle.points.specs.Operations.{InRange}
 use Rattle.cage.proofs.CageChecks.{checks-then}
 
 module _ (c : Tables) (points : List ℤ) (depth : ℕ) (e : first (cageChecks c points depth) ≡ DONE) where

@@ -17,17 +17,17 @@ use Rattle.halfedges.specs.Refusals.{DONE, first}
 use Rattle.halfedges.specs.Counts.{countsAt, Vs}
 use Rattle.halfedges.proofs.Questions.{limits-kept}
 use borrow.Author.Tests.{eq-eqb}
-use Rattle.connectivity.specs.Tables.{Tables, countsOf, leaves}
-use Rattle.connectivity.specs.Ruled.{Shaped, Ruled}
-use Rattle.connectivity.specs.NextLevel.{level}
-use Rattle.connectivity.specs.Operations.{tableChecks}
-use Rattle.connectivity.proofs.Accepted.{whole-meaning}
-use Rattle.connectivity.proofs.EdgeCount.{carried}
+use Rattle.tables.specs.Tables.{Tables, countsOf, leaves}
+use Rattle.tables.specs.Ruled.{Shaped, Ruled}
+use Rattle.splitting.specs.NextLevel.{level}
+use Rattle.tables.specs.Check.{tableChecks}
+use Rattle.tables.proofs.Accepted.{whole-meaning}
+use Rattle.tables.proofs.EdgeCount.{carried}
 use Rattle.invariance.specs.Invariance.{cornersAt, OnBorder, Added, Invariant}
 use Rattle.invariance.proofs.VertexCount.{corners-at-most, as-many-borders, one-border-leaves}
 use Rattle.invariance.proofs.Levels.{accepted, within-limits, vertices-stay}
 use Rattle.points.specs.NextPoints.{corners}
-use Rattle.points.specs.Relied.{most-corners, borderLeaves, borderEnds, knownCorners, Known, Relied}
+use Rattle.points.specs.Internal.Relied.{most-corners, borderLeaves, borderEnds, knownCorners, Known, Relied}
 
 -- of tables that keep the rules, with few corners at a vertex
 module _ (t : HalfedgeTable) (c : Tables) (s : Shaped c) (r : Ruled c (t .vertices)) (small : length (c .twin) ≤ marker) where

@@ -9,7 +9,7 @@ use borrow.Author.Tests.{le-ltb}
 use Rattle.halfedges.specs.Cage.{most-depth}
 use Rattle.halfedges.specs.Refusals.{DONE, POINT, first}
 use Rattle.halfedges.proofs.Checks.{first-more, given-alone, clean-done}
-use Rattle.connectivity.specs.Tables.{Tables, countsOf}
+use Rattle.tables.specs.Tables.{Tables, countsOf}
 use Rattle.invariance.proofs.Levels.{accepted}
 use Rattle.points.specs.Operations.{vertices, outOfRange, cageChecks}
 use Rattle.points.proofs.Range.{levels-in-range}

@@ -6,13 +6,13 @@ use lib.IntN.{ℤ}
 use lib.ListN.{length}
 use Rattle.halfedges.specs.Refusals.{DONE, POINT, givenAt, first}
 use Rattle.halfedges.specs.Counts.{Vs}
-use Rattle.connectivity.specs.Tables.{Tables, countsOf}
-use Rattle.connectivity.specs.NextLevel.{level}
-use Rattle.connectivity.specs.Operations.{rules}
+use Rattle.tables.specs.Tables.{Tables, countsOf}
+use Rattle.splitting.specs.NextLevel.{level}
+use Rattle.tables.specs.Check.{rules}
 use Rattle.invariance.specs.Invariance.{Invariant}
 use Rattle.points.specs.NextPoints.{levelPoints}
 use Rattle.points.specs.Operations.{vertices, outOfRange}
-use Rattle.points.specs.Relied.{InRange}
+use Rattle.points.specs.Operations.{InRange}
 
 -- level d's points
 abbrev pub pointsOf : Tables → List ℤ → ℕ → List ℤ

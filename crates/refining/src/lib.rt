@@ -5,14 +5,14 @@ ghost use lib.ListN.{length};
 ghost use Rattle.laws.specs.Parts.{inFront};
 ghost use Rattle.halfedges.specs.Refusals.{told};
 ghost use Rattle.halfedges.specs.Counts.{counted};
-ghost use Rattle.connectivity.specs.Tables.{tables};
+ghost use Rattle.tables.specs.Tables.{tables};
 ghost use Rattle.points.specs.Operations.{refineVerdict, refineCage};
-use connectivity::refine::counts_of;
-use connectivity::refine::fill;
-use connectivity::refine::short_table;
 use halfedges::answer::Answer;
 use halfedges::table::Counted;
-use points::levels::refine_points;
+use levels::refine::counts_of;
+use levels::refine::fill;
+use levels::refine::short_table;
+use passes::refine::refine_points;
 
 // Refines a cage into four lent tables: all checks first, then the tables, then the points above them.
 pub fn refine(
@@ -27,8 +27,11 @@ pub fn refine(
     points: &mut [i32],
 ) -> Counted
     ensures { λ r.
-        let after = refineCage (tables (now («cage_twin» .entry)) (now («cage_vert» .entry)) (now («cage_edge» .entry))) (now («cage_points» .entry)) depth (tables (now (twin .entry)) (now (vert .entry)) (now (edge .entry))) (now (points .entry)) in
-        ⌜ (counted r ≡ after .answer) × (tables (now (twin .exit)) (now (vert .exit)) (now (edge .exit)) ≡ after .lent) × (now (points .exit) ≡ after .points) ⌝ }
+        let after = refineCage (tables (now («cage_twin» .entry)) (now («cage_vert» .entry)) (now («cage_edge» .entry)))
+        (now («cage_points» .entry)) depth (tables (now (twin .entry)) (now (vert .entry)) (now (edge .entry)))
+        (now (points .entry)) in
+        ⌜ (counted r ≡ after .answer) × (tables (now (twin .exit)) (now (vert .exit)) (now (edge .exit)) ≡ after .lent)
+        × (now (points .exit) ≡ after .points) ⌝ }
 {
     let answer = plan(
         cage_twin,
@@ -72,7 +75,10 @@ fn plan(
     edge: &[u32],
     points: &[i32],
 ) -> Answer
-    ensures { λ r. ⌜ told r ≡ refineVerdict (tables (now («cage_twin» .entry)) (now («cage_vert» .entry)) (now («cage_edge» .entry))) (now («cage_points» .entry)) depth (tables (now (twin .entry)) (now (vert .entry)) (now (edge .entry))) (now (points .entry)) ⌝ }
+    ensures { λ r.
+        ⌜ told r ≡ refineVerdict (tables (now («cage_twin» .entry)) (now («cage_vert» .entry)) (now («cage_edge» .entry)))
+        (now («cage_points» .entry)) depth (tables (now (twin .entry)) (now (vert .entry)) (now (edge .entry)))
+        (now (points .entry)) ⌝ }
 {
     let cage = cage::check_for_depth(cage_twin, cage_vert, cage_edge, cage_points, depth);
     if cage.number() != 0 {

@@ -1,3 +1,1 @@
 pub mod CellPlaces
-pub mod Small
-pub mod Answers

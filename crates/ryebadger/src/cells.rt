@@ -6,15 +6,16 @@ ghost use lib.ListN.{length, getD};
 ghost use Rattle.halfedges.specs.Refusals.{told};
 ghost use Rattle.halfedges.specs.Counts.{counted as Counts·counted};
 ghost use Rattle.halfedges.specs.Corners.{cornered};
-ghost use Rattle.connectivity.specs.Operations.{checked as Operations·checked};
-ghost use Rattle.cagefile.specs.Reading.{reported};
-ghost use Rattle.cagefile.specs.Writing.{wrote};
-ghost use Rattle.ryebadger.specs.Cells.{cells, lengthCells, levelCells, Fitting, Sevens};
-use cagefile::reading::Reading;
-use cagefile::writing::Writing;
-use connectivity::check::Checked;
+ghost use Rattle.tables.specs.Check.{checked as Operations·checked};
+ghost use Rattle.reading.specs.Reading.{reported};
+ghost use Rattle.writing.specs.Writing.{wrote};
+ghost use Rattle.answers.specs.Cells.{cells, lengthCells, levelCells};
+ghost use Rattle.answers.specs.Internal.Fitting.{Fitting, Sevens};
 use halfedges::corners::Corners;
 use halfedges::table::Counted;
+use reading::Reading;
+use tables::check::Checked;
+use writing::Writing;
 
 // A number as a cell.
 fn cell(number: usize) -> u32

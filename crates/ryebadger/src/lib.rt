@@ -2,16 +2,16 @@
 ghost use mathlib.Core.Path.{_≡_};
 ghost use Rattle.halfedges.specs.Counts.{countQuestion};
 ghost use Rattle.halfedges.specs.Corners.{cornerQuestion};
-ghost use Rattle.connectivity.specs.Tables.{tables};
+ghost use Rattle.tables.specs.Tables.{tables};
 ghost use Rattle.points.specs.Operations.{checkCage, refineCage};
-ghost use Rattle.cagefile.specs.Reading.{readFile};
-ghost use Rattle.cagefile.specs.Writing.{writeFile};
-ghost use Rattle.ryebadger.specs.Cells.{cells as Cells·cells, lengthCells, levelCells};
-use cagefile::reading;
-use cagefile::writing;
+ghost use Rattle.reading.specs.Reading.{readFile};
+ghost use Rattle.writing.specs.Writing.{writeFile};
+ghost use Rattle.answers.specs.Cells.{cells as Cells·cells, lengthCells, levelCells};
 use halfedges::corners;
 use halfedges::table::HalfedgeTable;
+use reading;
 use refining;
+use writing;
 
 mod cells;
 
@@ -24,7 +24,9 @@ pub extern "C" fn ryebadger_check(
     points: &[i32],
     answer: &mut [u32; 7],
 )
-    ensures { λ _. ⌜ now (answer .exit) ≡ Cells·cells (checkCage (tables (now (twin .entry)) (now (vert .entry)) (now (edge .entry))) (now (points .entry))) ⌝ }
+    ensures { λ _.
+        ⌜ now (answer .exit)
+        ≡ Cells·cells (checkCage (tables (now (twin .entry)) (now (vert .entry)) (now (edge .entry))) (now (points .entry))) ⌝ }
 {
     let checked = cage::check_cage(twin, vert, edge, points);
     *answer = cells::of_check(checked);
@@ -39,7 +41,9 @@ pub extern "C" fn ryebadger_counts(
     depth: usize,
     answer: &mut [u32; 25],
 )
-    ensures { λ _. ⌜ now (answer .exit) ≡ levelCells (countQuestion (record { halfedges = halfedges; edges = edges; vertices = vertices }) depth) ⌝ }
+    ensures { λ _.
+        ⌜ now (answer .exit)
+        ≡ levelCells (countQuestion (record { halfedges = halfedges; edges = edges; vertices = vertices }) depth) ⌝ }
 {
     let table = HalfedgeTable {
         halfedges,
@@ -65,8 +69,10 @@ pub extern "C" fn ryebadger_refine(
     answer: &mut [u32; 25],
 )
     ensures { λ _.
-        let after = refineCage (tables (now (twin .entry)) (now (vert .entry)) (now (edge .entry))) (now (points .entry)) depth (tables (now (twins .entry)) (now (verts .entry)) (now (edges .entry))) (now (places .entry)) in
-        ⌜ (now (answer .exit) ≡ levelCells (after .answer)) × (tables (now (twins .exit)) (now (verts .exit)) (now (edges .exit)) ≡ after .lent)
+        let after = refineCage (tables (now (twin .entry)) (now (vert .entry)) (now (edge .entry))) (now (points .entry)) depth
+        (tables (now (twins .entry)) (now (verts .entry)) (now (edges .entry))) (now (places .entry)) in
+        ⌜ (now (answer .exit) ≡ levelCells (after .answer))
+        × (tables (now (twins .exit)) (now (verts .exit)) (now (edges .exit)) ≡ after .lent)
         × (now (places .exit) ≡ after .points) ⌝ }
 {
     let counted = refining::refine(twin, vert, edge, points, depth, twins, verts, edges, places);
@@ -93,8 +99,10 @@ pub extern "C" fn ryebadger_read(
     answer: &mut [u32; 4],
 )
     ensures { λ _.
-        let after = readFile (now (file .entry)) (tables (now (twin .entry)) (now (vert .entry)) (now (edge .entry))) (now (points .entry)) in
-        ⌜ (now (answer .exit) ≡ Cells·cells (after .answer)) × (tables (now (twin .exit)) (now (vert .exit)) (now (edge .exit)) ≡ after .lent)
+        let after = readFile (now (file .entry)) (tables (now (twin .entry)) (now (vert .entry)) (now (edge .entry)))
+        (now (points .entry)) in
+        ⌜ (now (answer .exit) ≡ Cells·cells (after .answer))
+        × (tables (now (twin .exit)) (now (vert .exit)) (now (edge .exit)) ≡ after .lent)
         × (now (points .exit) ≡ after .points) ⌝ }
 {
     let reading = reading::read(file, twin, vert, edge, points);
@@ -112,7 +120,8 @@ pub extern "C" fn ryebadger_write(
     answer: &mut [u32; 3],
 )
     ensures { λ _.
-        let after = writeFile (tables (now (twin .entry)) (now (vert .entry)) (now (edge .entry))) (now (points .entry)) (now (file .entry)) in
+        let after = writeFile (tables (now (twin .entry)) (now (vert .entry)) (now (edge .entry))) (now (points .entry))
+        (now (file .entry)) in
         ⌜ (now (answer .exit) ≡ lengthCells (after .answer)) × (now (file .exit) ≡ after .file) ⌝ }
 {
     let writing = writing::write(twin, vert, edge, points, file);

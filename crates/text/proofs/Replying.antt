@@ -8,7 +8,7 @@ use lib.Seq.{length-take-le}
 use Rattle.io.specs.Counts.{Counts}
 use Rattle.text.specs.declared.replies.Written.{Written}
 use Rattle.text.specs.Replies.{Reply, Says}
-use Rattle.text.specs.Put.{Replied}
+use Rattle.text.specs.Internal.Put.{Replied}
 use Rattle.text.proofs.Texts.{put-within}
 
 module _ {a b : List ℕ} {w : Written} where

@@ -15,10 +15,10 @@ use lib.ListN.{length, getD, take, set, length-append, take-append-drop}
 use lib.Seq.{paste, paste-suc, length-paste, take-length, drop-drop}
 use Rattle.io.specs.Digits.{digits, Fewest}
 use Rattle.laws.specs.Below.{endToEnd}
-use Rattle.laws.specs.Parts.{splice}
+use Rattle.laws.specs.Internal.Parts.{splice}
 use Rattle.laws.proofs.Splice.{splice-one, splice-more}
 use Rattle.text.specs.Lines.{space, decimal}
-use Rattle.text.specs.Put.{Put}
+use Rattle.text.specs.Internal.Put.{Put}
 use Rattle.text.proofs.Decimal.{few-digits, fewest-is}
 
 pub put-none : (a : List ℕ) (at : ℕ) → Put a at 0 [] a at

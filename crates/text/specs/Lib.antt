@@ -1,4 +1,4 @@
 pub mod Lines
 pub mod Replies
 pub mod Numbers
-pub mod Put
+pub mod Internal

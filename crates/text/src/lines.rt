@@ -3,7 +3,7 @@ ghost use mathlib.Core.List.{[], _∷_, _++_};
 ghost use Prim.Native.Nat.{_+_, _≤_};
 ghost use lib.ListN.{length};
 ghost use Rattle.text.specs.Lines.{decimal, ended, countWords, roomLine};
-ghost use Rattle.text.specs.Put.{Put};
+ghost use Rattle.text.specs.Internal.Put.{Put};
 
 // What stands between the words of a line.
 pub const SPACE: u8 = 32;

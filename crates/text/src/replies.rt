@@ -3,7 +3,7 @@ ghost use Prim.Native.Nat.{_+_, _≤_};
 ghost use lib.ListN.{length};
 ghost use Rattle.halfedges.specs.Refusals.{told};
 ghost use Rattle.text.specs.Replies.{refused, misused};
-ghost use Rattle.text.specs.Put.{Replied};
+ghost use Rattle.text.specs.Internal.Put.{Replied};
 use crate::lines;
 use halfedges::answer::Answer;
 

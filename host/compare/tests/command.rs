@@ -116,9 +116,9 @@ fn refused_files_are_told() {
 
 #[test]
 fn count_questions_are_answered() {
-    for line in counts::questions().lines().step_by(24) {
-        let words: Vec<&str> = line.split(' ').skip(1).collect();
-        assert_counted(&words);
+    for numbers in counts::questions().into_iter().step_by(24) {
+        let words = numbers.map(|number| number.to_string());
+        assert_counted(&words.each_ref().map(String::as_str));
     }
     for words in [
         ["12", "6", "4", "2"],

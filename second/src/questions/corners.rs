@@ -1,36 +1,19 @@
-//! For comparing with another program: trial questions for the corner question
-//! of document 01, "The cage". A line holds the kind, the triangle and the VERT
-//! table.
+//! For trying what document 01 says about "The cage": corner questions.
 
-use super::{question_line, read_number, read_table, table_line, Unread};
-use crate::corners::corner_question;
 use crate::draw::Draw;
-use crate::refusal::Refusal;
-
-/// What a line of this kind starts with.
-pub const KIND: u32 = 2;
 
 /// The triangle and the VERT table.
-type CornerQuestion = (u64, Vec<u32>);
+pub type CornerQuestion = (u64, Vec<u32>);
 
 /// How many questions are drawn.
 const DRAWN: usize = 200;
 
-pub fn questions() -> String {
+/// Those that were chosen, then those that are drawn.
+pub fn questions() -> Vec<CornerQuestion> {
     let draw = &mut Draw::new(3);
     let mut questions = edge_values(draw);
     questions.extend((0..DRAWN).map(|_| drawn_question(draw)));
-    let line = |(triangle, vert): CornerQuestion| {
-        question_line(KIND, &format!("{triangle} {}", table_line(&vert)))
-    };
-    questions.into_iter().map(line).collect()
-}
-
-pub(super) fn answer(unread: &mut Unread) -> Option<Result<[u64; 3], Refusal>> {
-    let triangle = read_number(unread)?;
-    let vert: Vec<u32> = read_table(unread)?;
-    let corners = corner_question(&vert, triangle);
-    Some(corners.map(|corners| corners.map(u64::from)))
+    questions
 }
 
 /// Tables of telling lengths with triangles inside, at and past the end.

@@ -1,17 +1,10 @@
-//! For comparing with another program: trial questions for the count question
-//! of document 01, "One level to the next". A line holds the kind, H, E, V and
-//! a depth.
+//! For trying what document 01 says in "One level to the next": count
+//! questions.
 
-use super::{joined, question_line, read_number, Unread};
-use crate::counts::{count_question, LevelCounts};
 use crate::draw::Draw;
-use crate::refusal::Refusal;
-
-/// What a line of this kind starts with.
-pub const KIND: u32 = 1;
 
 /// H, E, V and the depth.
-type CountQuestion = [u64; 4];
+pub type CountQuestion = [u64; 4];
 
 /// Document 01's P8.
 const TETRAHEDRON: CountQuestion = [12, 6, 4, 2];
@@ -19,31 +12,15 @@ const TETRAHEDRON: CountQuestion = [12, 6, 4, 2];
 /// How many questions are drawn.
 const DRAWN: u64 = 300;
 
-pub fn questions() -> String {
-    let listed = [
+/// Those that were chosen, then those that are drawn.
+pub fn questions() -> Vec<CountQuestion> {
+    [
         edge_values(),
         triangle_depths(),
         far_numbers(),
         drawn_questions(),
-    ];
-    let lines = listed.into_iter().flatten();
-    lines
-        .map(|numbers| question_line(KIND, &joined(numbers)))
-        .collect()
-}
-
-pub(super) fn answer(unread: &mut Unread) -> Option<Result<[u64; 23], Refusal>> {
-    let [h, e, v, depth] = [(); 4].map(|()| read_number(unread));
-    let counts = count_question(h?, e?, v?, depth?);
-    Some(counts.map(|counts| numbers_of(&counts)))
-}
-
-/// Seven H, seven E, seven V and the two sums.
-pub(super) fn numbers_of(counts: &LevelCounts) -> [u64; 23] {
-    let rows = [counts.halfedges, counts.edges, counts.vertices];
-    let sums = [counts.halfedge_room, counts.vertex_room];
-    let mut all = rows.into_iter().flatten().chain(sums);
-    [(); 23].map(|()| all.next().unwrap_or_default())
+    ]
+    .concat()
 }
 
 /// Numbers at and beside each limit.

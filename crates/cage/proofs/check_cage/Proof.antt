@@ -1,42 +1,25 @@
--- `check_cage` answers its checks, and else the counts.
+-- `check_cage` answers by its checks.
 use borrow.Author.Needs.{needs}
-use mathlib.Core.Path.{_∙_}
-use Rattle.points.specs.Operations.{checkCage}
-use Rattle.connectivity.proofs.TableChecks.{check-refused, check-done}
+use mathlib.Core.Path.{ap, _∙_}
+use lib.ListN.{replicate}
+use Rattle.halfedges.specs.Refusals.{said}
+use Rattle.tables.specs.Check.{returned}
+use Rattle.points.specs.Operations.{vertices, checkCage}
 use Rattle.cage.proofs.check_cage.Statement.{statement}
 use Rattle.cage.proofs.check_cage.Tie as tie
 
 check-for-depth-requires : tie.Need-check-for-depth-requires
 check-for-depth-requires c κs = search needs
 
-number-requires : tie.Need-number-requires
-number-requires c κs = search needs
-
-refused-requires : tie.Need-refused-requires
-refused-requires c κs = search needs
+answered-requires : tie.Need-answered-requires
+answered-requires c κs = search needs
 
 returns : tie.Need-returns
 unfolding checkCage
 returns c =
-    let one = c .before in
-    c .refused .ensures ∙ check-refused _ _ _ (one .before .before .check-for-depth .result) (one .before .before .check-for-depth .ensures) (one .before .number .ensures) (one .if1 .taken)
-
-accepted-requires : tie.Need-accepted-requires
-accepted-requires c κs = search needs
-
-returns-2 : tie.Need-returns-2
-unfolding checkCage
-returns-2 c =
-    let one = c .before in
-    c .accepted .ensures ∙ check-done _ _ _ (one .before .before .check-for-depth .result) (one .before .before .check-for-depth .ensures) (one .before .number .ensures) (one .if1 .left)
+    let s = c .before .before .before .before .before in
+    c .answered .ensures
+    ∙ ap (λ v. said v (returned (s .args .twin .now) (vertices (s .args .points .now))) (replicate 5 0)) (c .before .check-for-depth .ensures)
 
 pub check-cage-spec : {M : Type 1} → statement M
-check-cage-spec =
-    tie.close
-    (tie.spec
-    check-for-depth-requires
-    number-requires
-    refused-requires
-    returns
-    accepted-requires
-    returns-2)
+check-cage-spec = tie.close (tie.spec check-for-depth-requires answered-requires returns)

@@ -7,9 +7,9 @@ use lib.IntN.{ℤ}
 use Rattle.halfedges.specs.declared.table.Levels.{Levels}
 use Rattle.halfedges.specs.Refusals.{DONE, told, first}
 use Rattle.halfedges.specs.Counts.{roomH, roomV, levels}
-use Rattle.connectivity.specs.Tables.{Tables, tables, countsOf}
-use Rattle.connectivity.specs.Operations.{shortTables}
-use Rattle.connectivity.proofs.Granted.{Granted, granted}
+use Rattle.tables.specs.Tables.{Tables, tables, countsOf}
+use Rattle.levels.specs.Refining.{shortTables}
+use Rattle.levels.proofs.Granted.{Granted, granted}
 use Rattle.points.specs.Operations.{vertices, cageChecks}
 use Rattle.refining.proofs.Refined.{tables-done, few-vertices, cage-refused, cage-done, tables-short, points-short, all-roomy}
 use Rattle.refining.proofs.plan.Statement.{statement}

@@ -7,10 +7,10 @@ use lib.IntN.{ℤ}
 use Rattle.halfedges.specs.declared.table.HalfedgeTable.{HalfedgeTable}
 use Rattle.halfedges.specs.Refusals.{DONE}
 use Rattle.halfedges.specs.Counts.{countQuestion}
-use Rattle.connectivity.specs.Tables.{Tables, tables}
-use Rattle.connectivity.specs.InPlace.{tablesInFront}
-use Rattle.connectivity.specs.Operations.{levelsEndToEnd}
-use Rattle.connectivity.proofs.Granted.{granted}
+use Rattle.tables.specs.Tables.{Tables, tables}
+use Rattle.levels.specs.Internal.Filling.{tablesInFront}
+use Rattle.levels.specs.Refining.{levelsEndToEnd}
+use Rattle.levels.proofs.Granted.{granted}
 use Rattle.points.specs.Operations.{vertices, refineVerdict}
 use Rattle.refining.proofs.Refined.{tables-done, both-done, tables-roomy, points-roomy, told-done, refine-refused, refine-done}
 use Rattle.refining.proofs.Readied.{points-fit, readied, covered}

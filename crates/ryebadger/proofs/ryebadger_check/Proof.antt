@@ -1,8 +1,9 @@
 -- `ryebadger_check` puts the answer of the cage check in cells, which it fits.
 use borrow.Author.Needs.{needs}
 use mathlib.Core.Path.{sym, ap, subst, _∙_}
-use Rattle.ryebadger.specs.Cells.{cells, Fitting}
-use Rattle.ryebadger.proofs.Answers.{check-fits}
+use Rattle.answers.specs.Cells.{cells}
+use Rattle.answers.specs.Internal.Fitting.{Fitting}
+use Rattle.answers.proofs.Answers.{check-fits}
 use Rattle.ryebadger.proofs.ryebadger_check.Statement.{statement}
 use Rattle.ryebadger.proofs.ryebadger_check.Tie as tie
 

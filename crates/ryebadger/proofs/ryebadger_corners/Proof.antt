@@ -1,8 +1,8 @@
 -- `ryebadger_corners` puts the answer of the corner question in cells, which it fits.
 use borrow.Author.Needs.{needs}
 use mathlib.Core.Path.{ap, _∙_}
-use Rattle.ryebadger.specs.Cells.{cells}
-use Rattle.ryebadger.proofs.Answers.{corners-fit, corners-told}
+use Rattle.answers.specs.Cells.{cells}
+use Rattle.answers.proofs.Answers.{corners-fit, corners-told}
 use Rattle.ryebadger.proofs.ryebadger_corners.Statement.{statement}
 use Rattle.ryebadger.proofs.ryebadger_corners.Tie as tie
 

@@ -1,8 +1,8 @@
 -- `ryebadger_counts` puts the answer of the count question in cells, which it fits.
 use borrow.Author.Needs.{needs}
 use mathlib.Core.Path.{ap, _∙_}
-use Rattle.ryebadger.specs.Cells.{levelCells}
-use Rattle.ryebadger.proofs.Answers.{counts-fit, levels-told}
+use Rattle.answers.specs.Cells.{levelCells}
+use Rattle.answers.proofs.Answers.{counts-fit, levels-told}
 use Rattle.ryebadger.proofs.ryebadger_counts.Statement.{statement}
 use Rattle.ryebadger.proofs.ryebadger_counts.Tie as tie
 

@@ -1,9 +1,10 @@
 -- `ryebadger_read` puts the answer of reading in cells, which it fits, and leaves what that leaves.
 use borrow.Author.Needs.{needs}
 use mathlib.Core.Path.{sym, ap, subst, _∙_}
-use Rattle.connectivity.specs.Tables.{tables}
-use Rattle.ryebadger.specs.Cells.{cells, Fitting}
-use Rattle.ryebadger.proofs.Answers.{read-fits}
+use Rattle.tables.specs.Tables.{tables}
+use Rattle.answers.specs.Cells.{cells}
+use Rattle.answers.specs.Internal.Fitting.{Fitting}
+use Rattle.answers.proofs.Answers.{read-fits}
 use Rattle.ryebadger.proofs.ryebadger_read.Statement.{statement}
 use Rattle.ryebadger.proofs.ryebadger_read.Tie as tie
 

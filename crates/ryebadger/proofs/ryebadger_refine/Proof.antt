@@ -1,8 +1,8 @@
 -- `ryebadger_refine` puts the answer of refining in cells, which it fits, and leaves what that leaves.
 use borrow.Author.Needs.{needs}
 use mathlib.Core.Path.{ap, _∙_}
-use Rattle.ryebadger.specs.Cells.{levelCells}
-use Rattle.ryebadger.proofs.Answers.{refine-fits, levels-told}
+use Rattle.answers.specs.Cells.{levelCells}
+use Rattle.answers.proofs.Answers.{refine-fits, levels-told}
 use Rattle.ryebadger.proofs.ryebadger_refine.Statement.{statement}
 use Rattle.ryebadger.proofs.ryebadger_refine.Tie as tie
 

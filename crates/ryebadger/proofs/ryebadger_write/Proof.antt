@@ -1,8 +1,9 @@
 -- `ryebadger_write` puts the answer of writing in cells, which it fits, and leaves what that leaves.
 use borrow.Author.Needs.{needs}
 use mathlib.Core.Path.{sym, ap, subst, _∙_}
-use Rattle.ryebadger.specs.Cells.{lengthCells, Fitting}
-use Rattle.ryebadger.proofs.Answers.{write-fits}
+use Rattle.answers.specs.Cells.{lengthCells}
+use Rattle.answers.specs.Internal.Fitting.{Fitting}
+use Rattle.answers.proofs.Answers.{write-fits}
 use Rattle.ryebadger.proofs.ryebadger_write.Statement.{statement}
 use Rattle.ryebadger.proofs.ryebadger_write.Tie as tie
 

@@ -8,7 +8,7 @@ use mir.Syntax.{w32}
 use mir.Val.{SFits, toZ, ofZ}
 use mir.Facts.{toZ-ofZ}
 use Rattle.laws.proofs.Signs.{negative, natural}
-use Rattle.cagefile.specs.Fields.{twos}
+use Rattle.cagefile.specs.Numbers.{twos}
 use Rattle.cagefile.proofs.numbers.bits_of.Statement.{statement}
 use Rattle.cagefile.proofs.numbers.bits_of.Tie as tie
 

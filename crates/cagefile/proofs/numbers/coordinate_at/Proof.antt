@@ -4,7 +4,7 @@ use mir.Facts.{toZ-ofZ}
 use borrow.Author.Needs.{needs}
 use mathlib.Core.Path.{ap, ap₂, _∙_}
 use Prim.Native.Nat.{_+_, _*_}
-use Rattle.cagefile.specs.Reading.{signed}
+use Rattle.cagefile.specs.Numbers.{signed}
 use Rattle.cagefile.proofs.numbers.coordinate_at.Statement.{statement}
 use Rattle.cagefile.proofs.numbers.coordinate_at.Tie as tie
 

@@ -4,9 +4,9 @@ use mathlib.Core.Path.{refl, ap, _∙_}
 use Prim.Native.Nat.{_+_, _/_, _%_}
 use native.Mathlib.Omega.{arith}
 use mir.Facts.{toZ-ofZ}
-use Rattle.laws.specs.Parts.{splice}
+use Rattle.laws.specs.Internal.Parts.{splice}
 use Rattle.laws.proofs.Splice.{splice-more}
-use Rattle.cagefile.specs.Fields.{u16, u32, twos}
+use Rattle.cagefile.specs.Numbers.{u16, u32, twos}
 use Rattle.cagefile.proofs.numbers.put_coordinate.Statement.{statement}
 use Rattle.cagefile.proofs.numbers.put_coordinate.Tie as tie
 

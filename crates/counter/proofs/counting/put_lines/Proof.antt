@@ -5,7 +5,7 @@ use mathlib.Core.Path.{_≡_, refl, _∙_}
 use native.Mathlib.Omega.{arith}
 use lib.ListN.{length}
 use Rattle.laws.specs.Below.{endToEnd}
-use Rattle.text.specs.Put.{Put}
+use Rattle.text.specs.Internal.Put.{Put}
 use Rattle.text.proofs.Texts.{put-none, put-next, put-within}
 use Rattle.counter.specs.Counting.{countLine}
 use Rattle.counter.proofs.counting.put_lines.Statement.{statement}

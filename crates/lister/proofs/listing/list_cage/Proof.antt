@@ -6,13 +6,14 @@ use native.Mathlib.Omega.{arith}
 use Rattle.halfedges.specs.declared.table.Levels.{Levels}
 use Rattle.halfedges.specs.Cage.{most-halfedges, most-depth}
 use Rattle.halfedges.specs.Refusals.{told}
-use Rattle.halfedges.specs.Counts.{AtMost, levels}
-use Rattle.connectivity.specs.declared.check.Checked.{Checked}
-use Rattle.connectivity.specs.Tables.{Tables, tables}
+use Rattle.halfedges.specs.Internal.Counts.{AtMost}
+use Rattle.halfedges.specs.Counts.{levels}
+use Rattle.tables.specs.declared.check.Checked.{Checked}
+use Rattle.tables.specs.Tables.{Tables, tables}
 use Rattle.text.specs.Replies.{answered}
 use Rattle.text.proofs.Replying.{replied-within, replied-as}
 use Rattle.lister.specs.Listing.{levelLines, cageListing}
-use Rattle.lister.specs.Doubling.{doubled}
+use Rattle.lister.specs.Internal.Doubling.{doubled}
 use Rattle.lister.proofs.Outcomes.{counts, cage-refused, small, few-borders, cage-listed}
 use Rattle.lister.proofs.listing.list_cage.Statement.{statement}
 use Rattle.lister.proofs.listing.list_cage.Tie as tie

@@ -8,8 +8,8 @@ use lib.IntN.{ℤ}
 use lib.Seq.{length-take-le}
 use Rattle.halfedges.specs.Cage.{most-halfedges, most-vertices}
 use Rattle.halfedges.specs.Refusals.{told}
-use Rattle.connectivity.specs.Tables.{Tables, tables}
-use Rattle.cagefile.specs.declared.reading.Reading.{Reading}
+use Rattle.tables.specs.Tables.{Tables, tables}
+use Rattle.reading.specs.declared.Reading.{Reading}
 use Rattle.text.proofs.Replying.{replied-within, replied-as}
 use Rattle.lister.proofs.Outcomes.{Roomy, file-refused, H-kept, V-kept, file-listed}
 use Rattle.lister.proofs.listing.list_file.Statement.{statement}

@@ -5,10 +5,10 @@ use mathlib.Core.Path.{_≡_, refl, _∙_}
 use native.Mathlib.Omega.{arith}
 use lib.ListN.{length}
 use Rattle.laws.specs.Below.{endToEnd}
-use Rattle.text.specs.Put.{Put}
+use Rattle.text.specs.Internal.Put.{Put}
 use Rattle.text.proofs.Texts.{put-none, put-next}
 use Rattle.lister.specs.Listing.{levelLine}
-use Rattle.lister.specs.Doubling.{doubled}
+use Rattle.lister.specs.Internal.Doubling.{doubled}
 use Rattle.lister.proofs.Lines.{few-doubled, doubled-next}
 use Rattle.lister.proofs.listing.put_lines.Statement.{statement}
 use Rattle.lister.proofs.listing.put_lines.Tie as tie

@@ -4,7 +4,7 @@ use native.Mathlib.Nat.{add-zero}
 use borrow.Author.Needs.{needs}
 use mir.Syntax.{w32}
 use Rattle.laws.proofs.Integers.{back-of}
-use Rattle.points.specs.Passes.{value}
+use Rattle.points.specs.Internal.Cells.{value}
 use Rattle.points.proofs.cells.point_of.Statement.{statement}
 use Rattle.points.proofs.cells.point_of.Tie as tie
 

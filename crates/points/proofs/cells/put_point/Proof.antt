@@ -3,7 +3,7 @@ use native.Mathlib.Omega.{arith}
 use lib.ListN.{length-set}
 use borrow.Author.Needs.{needs}
 use mir.Facts.{toZ-ofZ}
-use Rattle.points.specs.Passes.{put}
+use Rattle.points.specs.Internal.Cells.{put}
 use Rattle.points.proofs.cells.put_point.Statement.{statement}
 use Rattle.points.proofs.cells.put_point.Tie as tie
 

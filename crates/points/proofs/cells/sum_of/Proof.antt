@@ -7,7 +7,7 @@ use mir.Syntax.{w32}
 use mir.Val.{SFits}
 use mir.Facts.{toZ-ofZ}
 use Rattle.laws.proofs.Integers.{natAbs-add, small-fits}
-use Rattle.points.specs.Passes.{value}
+use Rattle.points.specs.Internal.Cells.{value}
 use Rattle.points.proofs.cells.sum_of.Statement.{statement}
 use Rattle.points.proofs.cells.sum_of.Tie as tie
 

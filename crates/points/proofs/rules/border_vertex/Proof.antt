@@ -10,7 +10,7 @@ use mir.Val.{SFits}
 use mir.Facts.{toZ-ofZ, sfits-widen}
 use Rattle.laws.proofs.Integers.{natAbs-add, natAbs-mul, small-fits, back-of}
 use Rattle.points.specs.Operations.{most-coordinate}
-use Rattle.points.specs.Passes.{mark, met}
+use Rattle.points.specs.Internal.Parts.{mark, met}
 use Rattle.points.proofs.Numerators.{unmarked-at-most}
 use Rattle.points.proofs.rules.border_vertex.Statement.{statement}
 use Rattle.points.proofs.rules.border_vertex.Tie as tie

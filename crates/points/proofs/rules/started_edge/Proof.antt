@@ -6,7 +6,7 @@ use mir.Val.{SFits}
 use mir.Facts.{toZ-ofZ}
 use Rattle.laws.proofs.Integers.{natAbs-add, natAbs-mul, small-fits}
 use Rattle.points.specs.Operations.{most-coordinate}
-use Rattle.points.specs.Passes.{started}
+use Rattle.points.specs.Internal.Parts.{started}
 use Rattle.points.proofs.Numerators.{started-at-most}
 use Rattle.points.proofs.rules.started_edge.Statement.{statement}
 use Rattle.points.proofs.rules.started_edge.Tie as tie

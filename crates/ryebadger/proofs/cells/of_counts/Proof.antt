@@ -9,8 +9,8 @@ use lib.Seq.{paste, paste-zero}
 use Rattle.laws.specs.Parts.{inFront}
 use Rattle.laws.proofs.InFront.{copied-more, copied-all}
 use Rattle.halfedges.specs.Counts.{counted as Counts·counted}
-use Rattle.ryebadger.specs.Cells.{levelCells}
-use Rattle.ryebadger.proofs.Small.{fitting-at}
+use Rattle.answers.specs.Cells.{levelCells}
+use Rattle.answers.proofs.Small.{fitting-at}
 use Rattle.ryebadger.proofs.CellPlaces.{length-cells}
 use Rattle.ryebadger.proofs.cells.of_counts.Statement.{statement}
 use Rattle.ryebadger.proofs.cells.of_counts.Tie as tie

@@ -6,7 +6,8 @@ use native.Mathlib.Numerals.{add-one}
 use native.Mathlib.Omega.{arith}
 use Rattle.laws.proofs.Sums.{sum-at-most}
 use Rattle.halfedges.specs.Cage.{most-halfedges}
-use Rattle.halfedges.specs.Counts.{AtMost, countsAt}
+use Rattle.halfedges.specs.Internal.Counts.{AtMost}
+use Rattle.halfedges.specs.Counts.{countsAt}
 use Rattle.halfedges.proofs.Growth.{levels-at-most}
 use Rattle.halfedges.proofs.FirstLevels.{firstLevels, counts-more, more-levels, all-levels}
 use Rattle.halfedges.proofs.table.HalfedgeTable.levels.Statement.{statement}

@@ -1,0 +1,253 @@
+-- Every answer fits its cells: of the cage check (`check-fits`), the count question (`counts-fit`), refining (`refine-fits`), the
+-- corner question (`corners-fit`), reading (`read-fits`) and writing (`write-fits`). Assumes nothing.
+use Prim.Native.Nat.{ℕ, suc, _+_, _≤_, _<_}
+use mathlib.Core.Path.{_≡_, refl}
+use mathlib.Core.Bool.{Bool, true, false, cond}
+use mathlib.Core.List.{List, [], _∷_, _++_}
+use native.Mathlib.Omega.{arith}
+use lib.Dec.{eqb, leb, ltb}
+use borrow.Author.Tests.{eqb-true}
+use lib.IntN.{ℤ}
+use lib.ListN.{length}
+use Rattle.laws.specs.Below.{tabulate, sum}
+use Rattle.laws.proofs.Tests.{by-test}
+use Rattle.laws.proofs.Tabulate.{length-tabulate}
+use Rattle.laws.proofs.Sums.{sum-at-most}
+use Rattle.laws.proofs.Counts.{count-at-most}
+use Rattle.halfedges.specs.declared.table.HalfedgeTable.{HalfedgeTable}
+use Rattle.halfedges.specs.declared.table.Levels.{Levels}
+use Rattle.halfedges.specs.declared.table.Counted.{Counted}
+use Rattle.halfedges.specs.declared.corners.Corners.{Corners}
+use Rattle.halfedges.specs.Cage.{most-halfedges, most-depth, border, above, E, B}
+use Rattle.halfedges.specs.Refusals.{Verdict, DONE, SHAPE, LIMIT, TWIN, VERTEX, UNUSED, EDGE, FAN, POINT, ROOM, SHORT, FIELD, EXTRA, told, short, whenDone, first, Said, said}
+use Rattle.halfedges.specs.Internal.Counts.{AtMost}
+use Rattle.halfedges.specs.Counts.{countsAt, Hs, Es, Vs, seven, levels, noLevels, countShape, aboveLimit, countQuestion, counted}
+use Rattle.halfedges.specs.Corners.{cornerShape, cornerQuestion, cornered}
+use Rattle.halfedges.proofs.Checks.{first-zero, done-passes}
+use Rattle.halfedges.proofs.Growth.{levels-at-most}
+use Rattle.halfedges.proofs.Questions.{limits-kept, count-shape, count-limit, count-done, within, corner-shape, corner-done}
+use Rattle.tables.specs.Tables.{Tables, countsOf}
+use Rattle.tables.specs.Check.{rules, returned}
+use Rattle.levels.specs.Refining.{shortTables}
+use Rattle.points.specs.Operations.{vertices, cageChecks, checkCage, refineVerdict, refineCage}
+use Rattle.cagefile.specs.Fields.{Head, opening, heads, file}
+use Rattle.reading.specs.Reading.{past, fieldChecks, fieldsChecks, HIn, VIn, openingChecks, readVerdict, readFile}
+use Rattle.writing.specs.Writing.{writeVerdict, writeFile}
+use Rattle.reading.proofs.Verdict.{opening-kept, read-sound}
+use Rattle.cagefile.proofs.Fits.{file-length}
+use Rattle.writing.proofs.Accepted.{write-fits as write-kept}
+use Rattle.answers.specs.Cells.{cells, lengthCells, levelNumbers, levelCells}
+use Rattle.answers.specs.Internal.Fitting.{Fitting, Sevens}
+use Rattle.answers.proofs.Small.{Small, fitting-both, fitting-tabulate, fitting-when, given-small, givenAt-small, first-small, guarded-small, joined-small}
+
+-- a lent table that is short
+short-small : (table needed lent : ℕ) → table < 6 → Small (short table needed lent)
+unfolding short
+short-small table needed lent l = given-small (ltb lent needed) (ROOM table) (omega arith, omega arith)
+
+-- the first of 1 to 8
+cage-small : (c : Tables) (points : List ℤ) (depth : ℕ) → Small (first (cageChecks c points depth))
+unfolding cageChecks rules
+cage-small c points depth =
+    guarded-small _ SHAPE _ refl (omega arith, omega arith)
+    (λ _. guarded-small _ LIMIT _ refl (omega arith, omega arith)
+    (λ l.
+    let k = limits-kept (length (c .twin)) (vertices points) depth l in
+    first-small _ (
+      givenAt-small _ _ TWIN (λ h m. (omega arith, omega arith)),
+      (
+        givenAt-small _ _ VERTEX (λ h m. (omega arith, omega arith)),
+        (
+          givenAt-small _ _ UNUSED (λ v m. (omega arith, omega arith)),
+          (
+            givenAt-small _ _ EDGE (λ h m. (omega arith, omega arith)),
+            (
+              givenAt-small _ _ FAN (λ v m. (omega arith, omega arith)),
+              (
+                givenAt-small _ _ POINT (λ i m. (omega arith, omega arith)),
+                tt,
+              ),
+            ),
+          ),
+        ),
+      ),
+    )))
+
+pub check-fits : (c : Tables) (points : List ℤ) → Fitting (cells (checkCage c points))
+unfolding checkCage said cageChecks returned E B
+check-fits c points =
+    let s = cage-small c points 0 in (
+      s .0,
+      (
+        s .1,
+        fitting-when (first (cageChecks c points 0)) _ _
+            (λ z.
+            let shape = done-passes _ SHAPE _ refl (first-zero (cageChecks c points 0) z) in
+            let k = limits-kept (length (c .twin)) (vertices points) 0 (done-passes _ LIMIT _ refl (shape .1) .0) in
+            let e = count-at-most (length (c .twin)) (above (c .twin)) in
+            let b = count-at-most (length (c .twin)) (border (c .twin)) in
+            (omega arith, (omega arith, (omega arith, (omega arith, (omega arith, tt))))))
+            (omega arith, (omega arith, (omega arith, (omega arith, (omega arith, tt))))),
+      ),
+    )
+
+-- counts of which there are seven, and which fit
+record Laid (l : Levels) : Type 0 where
+  sevens : Sevens l
+  fitting : Fitting (levelNumbers l)
+
+laid : (l : Levels) → Sevens l → Fitting (l .halfedges) → Fitting (l .edges) → Fitting (l .vertices) → (l .«halfedge_room» < 4294967296) × (l .«vertex_room» < 4294967296) → Laid l
+laid l s h e v r =
+    record {
+      sevens = s;
+      fitting = fitting-both (l .halfedges) _ h (fitting-both (l .edges) _ e (fitting-both (l .vertices) (l .«halfedge_room» ∷ l .«vertex_room» ∷ []) v (r .0, (r .1, tt))));
+    }
+
+laid-none : Laid noLevels
+laid-none = laid noLevels (record { halfedges = refl; edges = refl; vertices = refl }) zeros zeros zeros (omega arith, omega arith)
+  where
+    zeros : Fitting (tabulate 7 (λ _. 0))
+    zeros = fitting-tabulate 7 (λ _. 0) (λ k l. omega arith)
+
+seven-fit : (depth : ℕ) (f : ℕ → ℕ) → ((k : ℕ) → k < 7 → f k < 4294967296) → Fitting (seven depth f)
+unfolding seven
+seven-fit depth f l = fitting-tabulate 7 _ (λ k m. by (leb k depth) (l k m))
+  where
+    by : (b : Bool) {n : ℕ} → n < 4294967296 → cond b n 0 < 4294967296
+    by true m = m
+    by false m = omega arith
+
+module _ (depth : ℕ) (f : ℕ → ℕ) where
+  long : length (seven depth f) ≡ 7
+  unfolding seven
+  long = length-tabulate 7 (λ k. cond (leb k depth) (f k) 0)
+
+  room-fits : ((k : ℕ) → k < 7 → f k ≤ 12582912) → depth ≤ most-depth → sum (suc depth) f < 4294967296
+  room-fits l d = omega (arith, sum-at-most (suc depth) 12582912 f (λ k m. l k (omega arith)))
+
+laid-levels : (t : HalfedgeTable) (depth : ℕ) → AtMost most-halfedges t → depth ≤ most-depth → Laid (levels t depth)
+unfolding levels
+laid-levels t depth a d =
+    let at : (k : ℕ) → k < 7 → AtMost 12582912 (countsAt t k) = λ k l. levels-at-most most-halfedges 6 t a k (omega arith) in
+    laid (levels t depth)
+    (record { halfedges = long depth (Hs t); edges = long depth (Es t); vertices = long depth (Vs t) })
+    (seven-fit depth (Hs t) (λ k l. omega (arith, at k l .halfedges)))
+    (seven-fit depth (Es t) (λ k l. omega (arith, at k l .edges)))
+    (seven-fit depth (Vs t) (λ k l. omega (arith, at k l .vertices)))
+    (room-fits depth (Hs t) (λ k l. at k l .halfedges) d, room-fits depth (Vs t) (λ k l. at k l .vertices) d)
+
+laid-count : (t : HalfedgeTable) (depth : ℕ) → Laid (countQuestion t depth .values)
+laid-count t depth =
+    by-test (countShape t) (λ s. rw (count-shape t depth s) laid-none)
+    (λ s. by-test (aboveLimit (t .halfedges) (t .vertices) depth) (λ l. rw (count-limit t depth s l) laid-none)
+    (λ l. let w = within t depth s l in rw (count-done t depth s l) (laid-levels t depth (w .0) (w .1))))
+
+laid-when : (v : Verdict) (l m : Levels) → Laid l → Laid m → Laid (whenDone v l m)
+laid-when v l m a b = by-test (eqb (v .number) 0) (λ e. rw e a) (λ e. rw e b)
+
+-- an answer with counts whose verdict is small
+pub record LevelsFit (s : Said Levels) : Type 0 where
+  pub sevens : Sevens (s .values)
+  pub fitting : Fitting (levelCells s)
+
+levels-fit : (s : Said Levels) → Small (s .verdict) → Laid (s .values) → LevelsFit s
+levels-fit s v l = record { sevens = l .sevens; fitting = (v .0, (v .1, l .fitting)) }
+
+-- a result that tells an answer with counts whose verdict is small
+pub levels-told : (r : Counted) (s : Said Levels) → counted r ≡ s → LevelsFit s → Sevens (r .levels) × Fitting (levelCells (counted r))
+levels-told r s e f = let g : LevelsFit (counted r) = rw e f in (g .sevens, g .fitting)
+
+pub counts-fit : (t : HalfedgeTable) (depth : ℕ) → LevelsFit (countQuestion t depth)
+unfolding countQuestion said
+counts-fit t depth =
+    levels-fit (countQuestion t depth)
+    (first-small _ (given-small (countShape t) SHAPE (omega arith, omega arith), (given-small (aboveLimit (t .halfedges) (t .vertices) depth) LIMIT (omega arith, omega arith), tt)))
+    (laid-count t depth)
+
+-- the four tables' room
+rooms-small : (needed coordinates : ℕ) (x : Tables) (xp : List ℤ) → Small (first (shortTables needed x ++ (short 4 coordinates (length xp) ∷ [])))
+unfolding shortTables
+rooms-small needed coordinates x xp = first-small _ (short-small 1 _ _ (omega arith), (short-small 2 _ _ (omega arith), (short-small 3 _ _ (omega arith), (short-small 4 _ _ (omega arith), tt))))
+
+module _ (c : Tables) (points : List ℤ) (depth : ℕ) (x : Tables) (xp : List ℤ) where
+  refine-small : Small (refineVerdict c points depth x xp)
+  unfolding refineVerdict
+  refine-small = joined-small (cageChecks c points depth) _ (cage-small c points depth) (λ _. rooms-small _ _ x xp)
+
+  pub refine-fits : LevelsFit (refineCage c points depth x xp .answer)
+  unfolding refineCage said
+  refine-fits =
+      levels-fit (refineCage c points depth x xp .answer) refine-small
+      (laid-when (refineVerdict c points depth x xp) _ noLevels (laid-count (countsOf c (vertices points)) depth) laid-none)
+
+-- SHAPE or done, and three corners
+pub record CornersFit (s : Said (List ℕ)) : Type 0 where
+  pub small : Small (s .verdict)
+  pub corners : length (s .values) ≡ 3
+
+pub corners-fit : (vert : List ℕ) (triangle : ℕ) → CornersFit (cornerQuestion vert triangle)
+corners-fit vert triangle =
+    by-test (cornerShape vert triangle)
+    (λ s. rw (corner-shape vert triangle s) (record { small = (omega arith, omega arith); corners = refl }))
+    (λ s. rw (corner-done vert triangle s) (record { small = (omega arith, omega arith); corners = refl }))
+
+pub corners-told : (r : Corners) (s : Said (List ℕ)) → cornered r ≡ s → CornersFit s → Fitting (cells (record { verdict = told (r .answer); values = [] })) × (length (r .corners) ≡ 3)
+corners-told r s e f = let g : CornersFit (cornered r) = rw e f in ((g .small .0, (g .small .1, tt)), g .corners)
+
+-- where the field after some has its head
+abbrev endOf : ℕ → List Head → ℕ
+endOf at [] = at
+endOf at (h ∷ hs) = endOf (past at h) hs
+
+starts-before-end : (at : ℕ) (hs : List Head) → at ≤ endOf at hs
+starts-before-end at [] = omega arith
+starts-before-end at (h ∷ hs) = omega (arith, starts-before-end (past at h) hs)
+
+field-small : (f : List ℕ) (at : ℕ) (h : Head) → at < 4294967296 → Small (first (fieldChecks f at h))
+unfolding fieldChecks
+field-small f at h l =
+    first-small _ (given-small _ (SHORT at) (omega arith, omega arith), (given-small _ (FIELD at) (omega arith, omega arith), (given-small _ (SHORT at) (omega arith, omega arith), tt)))
+
+fields-small : (f : List ℕ) (at : ℕ) (hs : List Head) → endOf at hs < 4294967296 → Small (first (fieldsChecks f at hs))
+unfolding fieldsChecks
+fields-small f at [] l = first-small _ (given-small _ (EXTRA at) (omega arith, omega arith), tt)
+fields-small f at (h ∷ hs) l =
+    joined-small (fieldChecks f at h) _ (field-small f at h (omega (arith, starts-before-end (past at h) hs))) (λ _. fields-small f (past at h) hs l)
+
+module _ (f : List ℕ) (x : Tables) (xp : List ℤ) where
+  ends : first (openingChecks f) ≡ DONE → endOf (past 0 opening) (heads (HIn f) (VIn f)) < 4294967296
+  unfolding heads
+  ends e = let k = opening-kept f e in omega (arith, k .1, k .2)
+
+  opening-small : Small (first (openingChecks f))
+  unfolding openingChecks
+  opening-small = first-small _ (given-small _ (FIELD 0) (omega arith, omega arith), (given-small _ SHAPE (omega arith, omega arith), (given-small _ LIMIT (omega arith, omega arith), tt)))
+
+  read-small : Small (readVerdict f x xp)
+  unfolding readVerdict
+  read-small =
+      joined-small (fieldChecks f 0 opening) _ (field-small f 0 opening (omega arith))
+      (λ _. joined-small (openingChecks f) _ opening-small
+      (λ e. joined-small (fieldsChecks f (past 0 opening) (heads (HIn f) (VIn f))) _ (fields-small f (past 0 opening) _ (ends e))
+      (λ _. rooms-small _ _ x xp)))
+
+  read-done : readVerdict f x xp .number ≡ 0 → Fitting (HIn f ∷ VIn f ∷ [])
+  unfolding readVerdict
+  read-done z = let s = read-sound f x xp (first-zero _ z) in (omega (arith, s .few-halfedges), (omega (arith, s .few-vertices), tt))
+
+  pub read-fits : Fitting (cells (readFile f x xp .answer))
+  unfolding readFile said
+  read-fits = (read-small .0, (read-small .1, fitting-when (readVerdict f x xp) _ _ read-done (omega arith, (omega arith, tt))))
+
+module _ (c : Tables) (points : List ℤ) (lent : List ℕ) where
+  write-small : Small (writeVerdict c points lent)
+  unfolding writeVerdict
+  write-small = joined-small (cageChecks c points 0) _ (cage-small c points 0) (λ _. first-small _ (short-small 5 _ _ (omega arith), tt))
+
+  write-done : writeVerdict c points lent .number ≡ 0 → length (file c points) < 4294967296
+  unfolding writeVerdict
+  write-done z = let k = write-kept c points lent (first-zero _ z) .0 in omega (arith, file-length c points (k .shaped), k .few-halfedges, k .few-vertices)
+
+  pub write-fits : Fitting (lengthCells (writeFile c points lent .answer))
+  unfolding writeFile said
+  write-fits = (write-small .0, (write-small .1, (by-test (eqb (writeVerdict c points lent .number) 0) (λ e. rw e (write-done (eqb-true _ 0 e))) (λ e. rw e (omega arith)), tt)))

@@ -1,0 +1,4 @@
+pub mod Writes
+pub mod Written
+pub mod Meeting
+pub mod Joined

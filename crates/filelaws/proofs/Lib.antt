@@ -1,0 +1,4 @@
+pub mod ReadBack
+pub mod WriteBack
+pub mod RoundTrips
+pub mod Prefix

@@ -1,0 +1,234 @@
+-- The levels end to end, one more at a time. Assumes nothing.
+--     climb-start, climb-on      where the loop stands at level 0, and at one level more
+--     climb-asks                 each level finds what it asks in its part of the tables
+--     climb-small, climb-end     and its counts are small
+use Prim.Native.Nat.{ℕ, zero, suc, _+_, _*_, _/_, _%_, _^_, _≤_, _<_}
+use mathlib.Core.Path.{_≡_, refl, sym, ap, _∙_}
+use mathlib.Core.Logic.{_≢_}
+use mathlib.Core.List.{List, _++_, append-assoc}
+use native.Mathlib.Numerals.{add-one}
+use native.Mathlib.Omega.{arith}
+use lib.IntN.{ℤ}
+use lib.ListN.{length, take, drop, length-append, length-drop, take-append-drop}
+use lib.Seq.{length-take-le, take-at, drop-at, drop-append-add, drop-drop}
+use Rattle.laws.specs.Below.{endToEnd, sum}
+use Rattle.laws.proofs.Sums.{sum-grows}
+use Rattle.laws.proofs.EndToEnd.{length-multiples, starts-within, part-of}
+use Rattle.laws.proofs.Tabulate.{length-tabulate, getD-tabulate}
+use Rattle.halfedges.specs.declared.table.HalfedgeTable.{HalfedgeTable}
+use Rattle.halfedges.specs.Cage.{NEXT, PREV, most-halfedges, most-depth, cell}
+use Rattle.halfedges.specs.Internal.Counts.{AtMost}
+use Rattle.halfedges.specs.Counts.{finer, countsAt, Hs, Vs}
+use Rattle.halfedges.proofs.Triangle.{prev-next, next-below, prev-below, next-past}
+use Rattle.halfedges.proofs.Growth.{levels-at-most}
+use Rattle.halfedges.proofs.FirstLevels.{counts-more}
+use Rattle.tables.specs.Tables.{Tables}
+use Rattle.splitting.specs.NextLevel.{newVert, nextVerts, level}
+use Rattle.levels.specs.Refining.{levelsEndToEnd}
+use Rattle.splitting.proofs.Rows.{at-across, at-back, at-middle}
+use Rattle.points.specs.NextPoints.{newPoint, nextPoints, levelPoints}
+use Rattle.points.specs.Internal.Relied.{Fourfold}
+use Rattle.passes.specs.Internal.Levels.{pointsAt, nextEnd, withNext, Ready, tablesAt, cageOf, cageCorners, pointLevels, withLevels, ReadyLevels}
+use Rattle.points.proofs.Range.{levels-in-range}
+
+-- VERT of a level's next one: the rows of document 01
+next-fourfold : (vert edge : List ℕ) (v : ℕ) → length vert % 3 ≡ 0 → length edge ≡ length vert → Fourfold (length vert) (nextVerts vert edge v)
+unfolding nextVerts newVert
+next-fourfold vert edge v whole long =
+    record {
+      long = length-tabulate (4 * n) (newVert vert edge v);
+      whole = whole;
+      corner = λ h b. back h b ∙ sym (across (PREV h) (prev-below whole b));
+      from = λ h b. middle h b ∙ sym (back h b);
+      end = λ h b.
+          ap (cell (nextVerts vert edge v)) (next-past n h) ∙ middle (NEXT h) (next-below whole b) ∙ ap (λ i. v + cell edge i) (prev-next h) ∙ sym (across h b);
+    }
+  where
+    n : ℕ
+    n = length vert
+
+    new : (k : ℕ) → k < 4 * length vert → cell (nextVerts vert edge v) k ≡ newVert vert edge v k
+    new k b = getD-tabulate (4 * length vert) (newVert vert edge v) k 0 b
+
+    across : (h : ℕ) → h < length vert → cell (nextVerts vert edge v) (3 * h + 1) ≡ v + cell edge h
+    across h b = new (3 * h + 1) (omega arith) ∙ at-across (length vert) _ _ _ _ h b
+
+    back : (h : ℕ) → h < length vert → cell (nextVerts vert edge v) (3 * h + 2) ≡ v + cell edge (PREV h)
+    back h b = new (3 * h + 2) (omega arith) ∙ at-back (length vert) _ _ _ _ h b
+
+    middle : (h : ℕ) → h < length vert → cell (nextVerts vert edge v) (3 * length vert + h) ≡ v + cell edge (PREV h)
+    middle h b = new (3 * length vert + h) (omega arith) ∙ at-middle (length vert) _ _ _ _ h b
+
+-- the halfedges of the level before level d, of which there is none before the cage
+abbrev beforeAt : HalfedgeTable → ℕ → ℕ
+beforeAt t zero = 0
+beforeAt t (suc d) = Hs t d
+
+-- where the loop stands before level d: its counts, where its halfedges and its points start, and the table so far
+pub record Stands (t : HalfedgeTable) (lent : Tables) (points : List ℤ) (d before : ℕ) (counts : HalfedgeTable) (start at : ℕ) (q : List ℤ) : Type 0 where
+  pub is-before : before ≡ beforeAt t d
+  pub is-counts : counts ≡ countsAt t d
+  pub is-start : start ≡ sum d (Hs t)
+  pub is-at : at ≡ 3 * sum d (Vs t)
+  pub is-table : q ≡ withLevels t d lent points
+
+module _ (t : HalfedgeTable) (depth : ℕ) (lent : Tables) (points : List ℤ) (ready : ReadyLevels t depth lent points) where
+  abbrev c : Tables
+  c = cageOf t lent
+
+  -- the points of level d
+  abbrev P : ℕ → List ℤ
+  P = levelPoints t c (take (3 * t .vertices) points)
+
+  -- the table with levels 0 to d
+  abbrev Q : ℕ → List ℤ
+  Q d = withLevels t d lent points
+
+  -- room for the first n levels
+  room-for : (n : ℕ) → n ≤ suc depth → 3 * sum n (Vs t) ≤ length points
+  room-for n l = omega (arith, ready .room, sum-grows (Vs t) n (suc depth) l)
+
+  cage-long : length (take (3 * t .vertices) points) ≡ 3 * t .vertices
+  unfolding countsAt
+  cage-long = length-take-le (3 * t .vertices) points (omega (arith, room-for 1 (omega arith)))
+
+  level-long : (d : ℕ) → length (P d) ≡ 3 * Vs t d
+  unfolding levelPoints countsAt nextPoints
+  level-long zero = cage-long
+  level-long (suc d) = length-tabulate (3 * (countsAt t d .vertices + countsAt t d .edges)) (λ i. newPoint (countsAt t d) (level t c d) (P d) (i / 3) (i % 3))
+
+  -- where level n's points start
+  levels-long : (n : ℕ) → length (pointLevels t lent points n) ≡ 3 * sum n (Vs t)
+  levels-long n = length-multiples 3 P (Vs t) n (λ i _. level-long i)
+
+  table-long : (d : ℕ) → d ≤ depth → length (Q d) ≡ length points
+  unfolding withLevels
+  table-long d l =
+      length-append (pointLevels t lent points (suc d)) (drop (length (pointLevels t lent points (suc d))) points)
+      ∙ omega (arith, length-drop (length (pointLevels t lent points (suc d))) points, levels-long (suc d), room-for (suc d) (omega arith))
+
+  pub climb-start : Stands t lent points 0 0 t 0 0 points
+  unfolding withLevels levelPoints countsAt
+  climb-start = record { is-before = refl; is-counts = refl; is-start = refl; is-at = refl; is-table = sym (rw cage-long (take-append-drop (3 * t .vertices) points)) }
+
+  module _ (d : ℕ) where
+    abbrev rest : List ℤ
+    rest = drop (length (pointLevels t lent points (suc d))) points
+
+    -- level d stands where the code looks for it
+    points-are : pointsAt (countsAt t d) (3 * sum d (Vs t)) (Q d) ≡ P d
+    unfolding withLevels
+    points-are =
+        ap (take (3 * Vs t d)) (ap (drop (3 * sum d (Vs t))) (append-assoc (pointLevels t lent points d) (P d) rest) ∙ drop-at (pointLevels t lent points d) (P d ++ rest) (3 * sum d (Vs t)) (levels-long d))
+        ∙ take-at (P d) rest (3 * Vs t d) (level-long d)
+
+    levels-end : length (pointLevels t lent points (suc d)) ≡ 3 * sum d (Vs t) + 3 * Vs t d
+    levels-end = levels-long (suc d) ∙ omega arith
+
+    past-next : drop (nextEnd (countsAt t d) (3 * sum d (Vs t))) (Q d) ≡ drop (length (pointLevels t lent points (suc (suc d)))) points
+    unfolding countsAt withLevels
+    past-next =
+        let E = pointLevels t lent points (suc d) in
+        let more = 3 * (countsAt t d .vertices + countsAt t d .edges) in
+        ap (λ k. drop (k + more) (Q d)) (sym levels-end)
+        ∙ drop-append-add E rest more
+        ∙ drop-drop more (length E) points
+        ∙ ap (λ k. drop k points) (ap (λ k. length E + k) (sym (level-long (suc d))) ∙ sym (length-append E (P (suc d))))
+
+    next-level : withNext (countsAt t d) (level t c d) (3 * sum d (Vs t)) (Q d) ≡ withLevels t (suc d) lent points
+    unfolding withNext withLevels levelPoints
+    next-level =
+        let E = pointLevels t lent points (suc d) in
+        rw (take-at E rest (3 * sum d (Vs t) + 3 * Vs t d) levels-end, points-are, past-next)
+        (sym (append-assoc E (P (suc d)) (drop (length (pointLevels t lent points (suc (suc d)))) points)))
+
+  -- a table that holds one list of H cells for each level, end to end
+  module _ (f : ℕ → List ℕ) (table : List ℕ) (starts : take (length (endToEnd (suc depth) f)) table ≡ endToEnd (suc depth) f) (long : (i : ℕ) → i < depth → length (f i) ≡ Hs t i) (d : ℕ) (l : d < depth) where
+    before : (n : ℕ) → n ≤ depth → length (endToEnd n f) ≡ 1 * sum n (Hs t)
+    before n b = length-multiples 1 f (Hs t) n (λ i li. long i (omega arith) ∙ omega arith)
+
+    lengths : (n : ℕ) → length (endToEnd n f) ≡ 1 * sum n (λ i. length (f i))
+    lengths n = length-multiples 1 f (λ i. length (f i)) n (λ i _. omega arith)
+
+    part-is : take (Hs t d) (drop (sum d (Hs t)) table) ≡ f d
+    part-is =
+        let s : length (endToEnd d f) ≡ sum d (Hs t) = omega (arith, before d (omega arith)) in
+        rw (long d l, s) at (part-of f (suc depth) table starts d (omega arith))
+
+    part-within : sum d (Hs t) + Hs t d ≤ length table
+    part-within = omega (arith, before (suc d) l, lengths (suc d), lengths (suc depth), sum-grows (λ i. length (f i)) (suc d) (suc depth) (omega arith), starts-within (endToEnd (suc depth) f) table starts)
+
+  vert-long : (i : ℕ) → i < depth → length (level t c i .vert) ≡ Hs t i
+  vert-long i l = ready .relied i l .halfedges
+
+  twin-long : (i : ℕ) → i < depth → length (level t c i .twin) ≡ Hs t i
+  twin-long i l = ready .relied i l .bordered .long ∙ vert-long i l
+
+  edge-long : (i : ℕ) → i < depth → length (level t c i .edge) ≡ Hs t i
+  edge-long i l = ready .relied i l .carried .long ∙ twin-long i l
+
+  -- above the cage each triangle of the level before became four
+  level-fourfold : (d : ℕ) → d < depth → beforeAt t d ≢ 0 → Fourfold (beforeAt t d) (level t c d .vert)
+  unfolding level
+  level-fourfold zero l some = absurd (some refl)
+  level-fourfold (suc d) l some =
+      let before = level t c d in
+      rw (← vert-long d (omega arith))
+      (next-fourfold (before .vert) (before .edge) (countsAt t d .vertices) (ready .relied d (omega arith) .cornered .whole) (edge-long d (omega arith) ∙ sym (vert-long d (omega arith))))
+
+  module _ (d : ℕ) (l : d < depth) where
+    parts-are : tablesAt (countsAt t d) (sum d (Hs t)) lent ≡ level t c d
+    unfolding levelsEndToEnd
+    parts-are =
+        λ i. record {
+          twin = part-is (λ j. level t c j .twin) (lent .twin) (ready .twins) twin-long d l i;
+          vert = part-is (λ j. level t c j .vert) (lent .vert) (ready .verts) vert-long d l i;
+          edge = part-is (λ j. level t c j .edge) (lent .edge) (ready .edges) edge-long d l i;
+        }
+
+    parts-within : (sum d (Hs t) + Hs t d ≤ length (lent .twin)) × (sum d (Hs t) + Hs t d ≤ length (lent .vert)) × (sum d (Hs t) + Hs t d ≤ length (lent .edge))
+    unfolding levelsEndToEnd
+    parts-within = (
+      part-within (λ i. level t c i .twin) (lent .twin) (ready .twins) twin-long d l,
+      part-within (λ i. level t c i .vert) (lent .vert) (ready .verts) vert-long d l,
+      part-within (λ i. level t c i .edge) (lent .edge) (ready .edges) edge-long d l,
+    )
+
+    small : AtMost (4 ^ most-depth * most-halfedges) (countsAt t d)
+    small = levels-at-most most-halfedges most-depth t (ready .counts) d (omega (arith, ready .deep))
+
+    level-ready : Ready (cageCorners t lent) (beforeAt t d) (countsAt t d) (level t c d) (3 * sum d (Vs t)) (Q d)
+    unfolding countsAt
+    level-ready =
+        record {
+          relied = ready .relied d l;
+          known = ready .known d l;
+          fourfold = level-fourfold d l;
+          short = omega (arith, small);
+          in-range = rw (points-are d) (levels-in-range t c (take (3 * t .vertices) points) depth (ready .relied) (ready .in-range) d (omega arith));
+          room = rw (table-long d (omega arith)) (omega (arith, room-for (suc (suc d)) (omega arith)));
+        }
+
+    asks : (sum d (Hs t) + Hs t d ≤ length (lent .twin)) × (sum d (Hs t) + Hs t d ≤ length (lent .vert)) × (sum d (Hs t) + Hs t d ≤ length (lent .edge)) × Ready (cageCorners t lent) (beforeAt t d) (countsAt t d) (tablesAt (countsAt t d) (sum d (Hs t)) lent) (3 * sum d (Vs t)) (Q d)
+    asks = (parts-within .0, parts-within .1, parts-within .2, rw parts-are level-ready)
+
+  -- the loop's turn at level d
+  module _ {d before start at : ℕ} {counts : HalfedgeTable} {q : List ℤ} (stands : Stands t lent points d before counts start at q) (l : d < depth) where
+    pub climb-asks : (start + counts .halfedges ≤ length (lent .twin)) × (start + counts .halfedges ≤ length (lent .vert)) × (start + counts .halfedges ≤ length (lent .edge)) × Ready (cageCorners t lent) before counts (tablesAt counts start lent) at q
+    climb-asks = rw (stands .is-before, stands .is-counts, stands .is-start, stands .is-at, stands .is-table) (asks d l)
+
+    pub climb-small : AtMost (4 ^ most-depth * most-halfedges) counts
+    climb-small = rw (stands .is-counts) (small d l)
+
+    pub climb-end : at + 3 * counts .vertices ≤ length points
+    climb-end = rw (stands .is-counts, stands .is-at) (omega (arith, room-for (suc d) (omega arith)))
+
+    pub climb-on : {next : HalfedgeTable} {r : List ℤ} → next ≡ finer counts → r ≡ withNext counts (tablesAt counts start lent) at q → Stands t lent points (d + 1) (counts .halfedges) next (start + counts .halfedges) (at + 3 * counts .vertices) r
+    climb-on e f =
+        record {
+          is-before = rw (add-one d) (ap (λ u. u .halfedges) (stands .is-counts));
+          is-counts = e ∙ ap finer (stands .is-counts) ∙ counts-more t d;
+          is-start = rw (add-one d, stands .is-start, stands .is-counts);
+          is-at = rw (add-one d, stands .is-at, stands .is-counts) (omega arith);
+          is-table = f ∙ rw (add-one d, stands .is-counts, stands .is-start, stands .is-at, stands .is-table) (rw (parts-are d l) (next-level d));
+        }

@@ -1,0 +1,81 @@
+-- The points in the lent table: the next level's come straight after a level's, and so all levels stand end to end.
+use Prim.Native.Nat.{ℕ, suc, _+_, _*_, _≤_, _<_}
+use mathlib.Core.Path.{_≡_}
+use mathlib.Core.Logic.{_≢_}
+use mathlib.Core.List.{List, _++_}
+use lib.IntN.{ℤ}
+use lib.ListN.{length, take, drop}
+use Rattle.halfedges.specs.declared.table.HalfedgeTable.{HalfedgeTable}
+use Rattle.laws.specs.Below.{tabulate, endToEnd}
+use Rattle.halfedges.specs.Cage.{marker, most-halfedges, most-depth}
+use Rattle.halfedges.specs.Internal.Counts.{AtMost}
+use Rattle.halfedges.specs.Counts.{countsAt, roomV}
+use Rattle.tables.specs.Tables.{Tables, tables}
+use Rattle.splitting.specs.NextLevel.{level}
+use Rattle.levels.specs.Refining.{levelsEndToEnd}
+use Rattle.points.specs.NextPoints.{corners, nextPoints, levelPoints}
+use Rattle.points.specs.Internal.Relied.{Relied, Known, Fourfold}
+use Rattle.points.specs.Operations.{InRange}
+
+-- the points of a level with counts t that start at cell `at`
+abbrev pub pointsAt : HalfedgeTable → ℕ → List ℤ → List ℤ
+pointsAt t at points = take (3 * t .vertices) (drop at points)
+
+-- where the points of the level after one at cell `at` end
+abbrev pub nextEnd : HalfedgeTable → ℕ → ℕ
+nextEnd t at = at + 3 * t .vertices + 3 * (t .vertices + t .edges)
+
+-- the table with the next level's points after the level's, and everything else as it was
+unfoldable pub withNext : HalfedgeTable → Tables → ℕ → List ℤ → List ℤ
+withNext t c at points = take (at + 3 * t .vertices) points ++ (nextPoints t c (pointsAt t at points) ++ drop (nextEnd t at) points)
+
+-- what the next level's points take: the tables' promise, known corners, points in range and room; and no halfedge's number is the marker
+pub record Ready (own : List ℕ) (before : ℕ) (t : HalfedgeTable) (c : Tables) (at : ℕ) (points : List ℤ) : Type 0 where
+  pub relied : Relied t c
+  pub known : Known own (c .twin) (c .vert) (t .vertices)
+  pub fourfold : before ≢ 0 → Fourfold before (c .vert)
+  pub short : t .halfedges ≤ marker
+  pub in-range : InRange (pointsAt t at points)
+  pub room : nextEnd t at ≤ length points
+
+-- a table that starts with these cells
+abbrev pub StartsWith : {A : Type 0} → List A → List A → Type 0
+StartsWith cells table = take (length cells) table ≡ cells
+
+-- a level's tables, from cell `start` of each lent table on
+abbrev pub tablesAt : HalfedgeTable → ℕ → Tables → Tables
+tablesAt t start lent =
+    tables
+    (take (t .halfedges) (drop start (lent .twin)))
+    (take (t .halfedges) (drop start (lent .vert)))
+    (take (t .halfedges) (drop start (lent .edge)))
+
+-- "level 0 is the cage"
+abbrev pub cageOf : HalfedgeTable → Tables → Tables
+cageOf t lent = tablesAt t 0 lent
+
+-- the corners of the cage's vertices
+abbrev pub cageCorners : HalfedgeTable → Tables → List ℕ
+cageCorners t lent = tabulate (t .vertices) (λ u. length (corners (cageOf t lent .vert) u))
+
+-- the levels' points end to end, of a cage whose points the table starts with
+abbrev pub pointLevels : HalfedgeTable → Tables → List ℤ → ℕ → List ℤ
+pointLevels t lent points n = endToEnd n (levelPoints t (cageOf t lent) (take (3 * t .vertices) points))
+
+-- the table with levels 0 to the depth; "What lies past that is untouched"
+unfoldable pub withLevels : HalfedgeTable → ℕ → Tables → List ℤ → List ℤ
+withLevels t depth lent points = pointLevels t lent points (suc depth) ++ drop (length (pointLevels t lent points (suc depth))) points
+
+-- what that takes: within the limits, three tables that hold the levels end to end, each with its promise, a cage in range, and room
+pub record ReadyLevels (t : HalfedgeTable) (depth : ℕ) (lent : Tables) (points : List ℤ) : Type 0 where
+  pub counts : AtMost most-halfedges t
+  pub deep : depth ≤ most-depth
+  pub cage-long : t .halfedges ≤ length (lent .vert)
+  pub twins : StartsWith (levelsEndToEnd t (cageOf t lent) depth .twin) (lent .twin)
+  pub verts : StartsWith (levelsEndToEnd t (cageOf t lent) depth .vert) (lent .vert)
+  pub edges : StartsWith (levelsEndToEnd t (cageOf t lent) depth .edge) (lent .edge)
+  pub relied : (d : ℕ) → d < depth → Relied (countsAt t d) (level t (cageOf t lent) d)
+  pub known :
+      (d : ℕ) → d < depth → Known (cageCorners t lent) (level t (cageOf t lent) d .twin) (level t (cageOf t lent) d .vert) (countsAt t d .vertices)
+  pub in-range : InRange (take (3 * t .vertices) points)
+  pub room : 3 * roomV t depth ≤ length points

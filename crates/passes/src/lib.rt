@@ -1,0 +1,3 @@
+// The points of the levels, by four passes over each.
+pub mod level;
+pub mod refine;

@@ -1,0 +1,4 @@
+-- What only contracts between functions cite.
+pub mod Cells
+pub mod Parts
+pub mod Relied

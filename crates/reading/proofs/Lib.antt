@@ -1,0 +1,4 @@
+pub mod FieldLaws
+pub mod Verdict
+pub mod Outcomes
+pub mod Told

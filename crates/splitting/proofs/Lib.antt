@@ -1,0 +1,5 @@
+pub mod Rows
+pub mod Fill
+pub mod Triangles
+pub mod Soundness
+pub mod Descent

@@ -1,0 +1,6 @@
+pub mod Added
+pub mod Cleared
+pub mod Gathered
+pub mod Fours
+pub mod FourSpokes
+pub mod Settled

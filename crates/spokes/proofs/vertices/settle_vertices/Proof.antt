@@ -1,0 +1,140 @@
+-- `settle_vertices` takes one step of its definition a turn, in the first loop by listed corners and in the second by six.
+use Prim.Native.Nat.{ℕ, _+_, _-_, _*_, _/_, _≤_, _<_}
+use mathlib.Core.Path.{_≡_, refl, sym, ap, _∙_, subst}
+use mathlib.Core.List.{List}
+use native.Mathlib.Omega.{arith}
+use lib.IntN.{ℤ}
+use lib.ListN.{length}
+use borrow.Author.Needs.{needs}
+use Rattle.laws.specs.Internal.Steps.{steps}
+use Rattle.laws.proofs.Steps.{steps-none, steps-on, steps-end}
+use Rattle.halfedges.specs.Cage.{cell}
+use Rattle.points.specs.Internal.Relied.{knownCorners}
+use Rattle.points.specs.Internal.Cells.{value}
+use Rattle.spokes.specs.Internal.Sums.{Settles, settle}
+use Rattle.spokes.proofs.Settled.{settles-on, own-known, added-known, settle-is}
+use Rattle.laws.proofs.Steps.{steps-add, steps-on-from}
+use Rattle.spokes.proofs.vertices.settle_vertices.Statement.{statement}
+use Rattle.spokes.proofs.vertices.settle_vertices.Tie as tie
+
+abbrev Inv-loop : tie.InvT-loop
+Inv-loop own points₀ vertices cells own-cells i₀ points i = (i ≤ own-cells) × (length points ≡ length points₀) × (points ≡ steps i (settle own vertices) points₀)
+
+abbrev μ-loop : tie.MeasureT-loop
+μ-loop own points₀ vertices cells own-cells i₀ points i = own-cells - i
+
+abbrev Inv-loop2 : tie.InvT-loop2
+Inv-loop2 own points₀ vertices cells own-cells i₀ points i = (i₀ ≤ i) × (i ≤ cells) × (length points ≡ length points₀) × (points ≡ steps (i - i₀) (λ j. settle own vertices (i₀ + j)) points₀)
+
+abbrev μ-loop2 : tie.MeasureT-loop2
+μ-loop2 own points₀ vertices cells own-cells i₀ points i = cells - i
+
+-- what a turn asks of cell i
+abbrev SettlesBy : ℕ → ℕ → ℕ → List ℤ → Type 0
+SettlesBy i n corners l = Settles corners (value l i) (value l (3 * n + i))
+
+-- the second loop goes on where the first one ended
+so-far : (b : tie.At-loop2 Inv-loop μ-loop Inv-loop2 μ-loop2) → let s = b .before .before .before .before in b .loop2 .points ≡ steps (b .loop2 .i) (settle (s .args .own .now) (s .args .vertices)) (s .args .points .now)
+so-far b =
+    let s = b .before .before .before .before in
+    let a = b .before .before in
+    let f = settle (s .args .own .now) (s .args .vertices) in
+    let i₀ = a .loop .i in
+    let e : a .loop .i + (b .loop2 .i - a .loop .i) ≡ b .loop2 .i = omega (arith, b .loop2 .inv .0) in
+    b .loop2 .inv .3 ∙ ap (steps (b .loop2 .i - i₀) (λ j. f (i₀ + j))) (a .loop .inv .2) ∙ sym (steps-add f (s .args .points .now) i₀ (b .loop2 .i - i₀)) ∙ ap (λ i. steps i f (s .args .points .now)) e
+
+mul-cells : tie.Need-mul-cells Inv-loop μ-loop Inv-loop2 μ-loop2
+mul-cells c = search needs
+
+mul-own-cells : tie.Need-mul-own-cells Inv-loop μ-loop Inv-loop2 μ-loop2
+mul-own-cells c = search needs
+
+loop-holds : tie.Need-loop-holds Inv-loop μ-loop Inv-loop2 μ-loop2
+loop-holds c = (omega arith, refl, sym (steps-none _ _))
+
+mul-settle-own : tie.Need-mul-settle-own Inv-loop μ-loop Inv-loop2 μ-loop2
+mul-settle-own c = omega arith
+
+shared-slice-read-settle-own : tie.Need-shared-slice-read-settle-own Inv-loop μ-loop Inv-loop2 μ-loop2
+shared-slice-read-settle-own c = omega arith
+
+settle-own-requires : tie.Need-settle-own-requires Inv-loop μ-loop Inv-loop2 μ-loop2
+settle-own-requires c κs =
+    let b = c .before .before .before in
+    let s = b .before .before in
+    let own = s .args .own .now in
+    let i = b .loop .i in
+    let turn : b .loop .i < 3 * s .args .vertices = omega (arith, s .pre .0) in
+    let known : knownCorners (s .args .own .now) (b .loop .i / 3) ≡ cell (s .args .own .now) (b .loop .i / 3) = own-known own (i / 3) (omega arith) in
+    (omega (arith, s .pre .1, b .loop .inv .1), subst (SettlesBy i (s .args .vertices) (cell own (i / 3))) (sym (b .loop .inv .2)) (subst (λ k. SettlesBy i (s .args .vertices) k (steps i (settle own (s .args .vertices)) (s .args .points .now))) known (settles-on own (s .args .vertices) (s .args .points .now) (s .pre .1) i turn (s .pre .2 i turn))))
+
+add-i : tie.Need-add-i Inv-loop μ-loop Inv-loop2 μ-loop2
+add-i c = search needs
+
+loop-less : tie.Need-loop-less Inv-loop μ-loop Inv-loop2 μ-loop2
+loop-less c = search needs
+
+loop-again : tie.Need-loop-again Inv-loop μ-loop Inv-loop2 μ-loop2
+loop-again c =
+    let b = c .before .before .before .before .before in
+    let s = b .before .before in
+    let own = s .args .own .now in
+    (omega arith, search needs, steps-on _ _ (b .loop .i) (b .loop .inv .2) (settle-is own (s .args .vertices) (b .loop .i) (b .loop .points) (own-known own (b .loop .i / 3) (omega arith)) (c .before .settle-own .ensures)))
+
+loop2-holds : tie.Need-loop2-holds Inv-loop μ-loop Inv-loop2 μ-loop2
+loop2-holds c = (omega arith, omega (arith, c .before .before .before .pre .0), refl, steps-end _ _ (sym (steps-none _ _)) (omega arith))
+
+settle-added-requires : tie.Need-settle-added-requires Inv-loop μ-loop Inv-loop2 μ-loop2
+settle-added-requires c κs =
+    let b = c .before .before in
+    let s = b .before .before .before .before in
+    let own = s .args .own .now in
+    let i = b .loop2 .i in
+    let turn : b .loop2 .i < 3 * s .args .vertices = omega arith in
+    let known : knownCorners (s .args .own .now) (b .loop2 .i / 3) ≡ 6 = added-known own (i / 3) (omega arith) in
+    (omega (arith, s .pre .1, b .loop2 .inv .2, b .before .before .loop .inv .1), subst (SettlesBy i (s .args .vertices) 6) (sym (so-far b)) (subst (λ k. SettlesBy i (s .args .vertices) k (steps i (settle own (s .args .vertices)) (s .args .points .now))) known (settles-on own (s .args .vertices) (s .args .points .now) (s .pre .1) i turn (s .pre .2 i turn))))
+
+add-i-2 : tie.Need-add-i-2 Inv-loop μ-loop Inv-loop2 μ-loop2
+add-i-2 c = search needs
+
+loop2-less : tie.Need-loop2-less Inv-loop μ-loop Inv-loop2 μ-loop2
+loop2-less c = search needs
+
+loop2-again : tie.Need-loop2-again Inv-loop μ-loop Inv-loop2 μ-loop2
+loop2-again c =
+    let b = c .before .before .before .before in
+    let s = b .before .before .before .before in
+    let own = s .args .own .now in
+    let f = settle own (s .args .vertices) in
+    (omega arith, omega arith, search needs, steps-on-from f _ (b .before .before .loop .i) (b .loop2 .i) (b .loop2 .inv .0) (b .loop2 .inv .3) (settle-is own (s .args .vertices) (b .loop2 .i) (b .loop2 .points) (added-known own (b .loop2 .i / 3) (omega arith)) (c .before .settle-added .ensures)))
+
+same-length : tie.Need-same-length Inv-loop μ-loop Inv-loop2 μ-loop2
+same-length c = search needs
+
+returns : tie.Need-returns Inv-loop μ-loop Inv-loop2 μ-loop2
+returns c = steps-end _ _ (so-far (c .before)) (omega arith)
+
+pub settle-vertices-spec : {M : Type 1} → statement M
+settle-vertices-spec =
+    tie.close
+    (tie.spec
+    Inv-loop
+    μ-loop
+    Inv-loop2
+    μ-loop2
+    mul-cells
+    mul-own-cells
+    loop-holds
+    mul-settle-own
+    shared-slice-read-settle-own
+    settle-own-requires
+    add-i
+    loop-less
+    loop-again
+    loop2-holds
+    settle-added-requires
+    add-i-2
+    loop2-less
+    loop2-again
+    same-length
+    returns)

@@ -1,0 +1,3 @@
+// The first three passes over a level: sums over every vertex's spokes, and the new places inside.
+pub mod spokes;
+pub mod vertices;

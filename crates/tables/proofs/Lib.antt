@@ -1,0 +1,10 @@
+pub mod Meaning
+pub mod Carriers
+pub mod RuleTests
+pub mod TableChecks
+pub mod Joined
+pub mod Fanned
+pub mod Accepted
+pub mod EdgeCount
+pub mod Walks
+pub mod Corners

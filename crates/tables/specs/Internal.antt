@@ -1,0 +1,4 @@
+-- What only contracts between functions cite.
+pub mod Above
+pub mod Tally
+pub mod Walks
