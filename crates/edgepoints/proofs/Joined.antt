@@ -5,7 +5,7 @@ use mathlib.Core.Path.{_≡_, refl, ap, ap₂, _∙_}
 use mathlib.Core.Logic.{_≢_}
 use mathlib.Core.Bool.{Bool, true, false, cond}
 use mathlib.Core.List.{List}
-use native.Mathlib.Decide.{ℕ-discrete, decLt}
+use native.Mathlib.Decide.{ℕ-discrete}
 use native.Mathlib.Nat.{add-zero}
 use native.Mathlib.Omega.{arith}
 use lib.Dec.{eqb}
@@ -16,32 +16,34 @@ use Rattle.laws.specs.Below.{count}
 use Rattle.laws.specs.Internal.Steps.{steps}
 use Rattle.laws.proofs.Integers.{natAbs-add, add-swap}
 use Rattle.laws.proofs.Select.{count-grows}
-use Rattle.halfedges.specs.Cage.{PREV, marker, cell}
+use Rattle.halfedges.specs.Cage.{NEXT, marker, cell}
+use Rattle.halfedges.proofs.Triangle.{next-below}
+use Rattle.edgepoints.specs.declared.edges.Corner.{Corner}
+use Rattle.edgepoints.specs.declared.edges.Halfedge.{Halfedge}
 use Rattle.tables.specs.Tables.{leaves}
-use Rattle.points.specs.PointRules.{E1}
 use Rattle.points.specs.NextPoints.{coordinate, far}
 use Rattle.points.specs.Operations.{most-coordinate, InRange}
 use Rattle.points.specs.Internal.Relied.{Bordered, borderLeaves, borderEnds, Carried}
 use Rattle.points.specs.Internal.Cells.{value, put, pointOf}
-use Rattle.points.specs.Internal.Parts.{started, finished, met}
-use Rattle.edgepoints.specs.Internal.Edges.{meet, borderEdge, startEdge, finishEdge, Edged, putEdge}
+use Rattle.points.specs.Internal.Parts.{met}
+use Rattle.edgepoints.specs.Internal.Edges.{middle, meeting, meet, borderEdge, inner, innerEdge, cornerOf, halfedgeOf, Edged, putEdge}
 use Rattle.points.proofs.Ends.{leavingSum, endingSum, creaseSum, creases-at-most, far-below}
 use Rattle.laws.proofs.Totals.{scan-more}
 use Rattle.points.proofs.Range.{any-in-range}
 use Rattle.points.proofs.Only.{put-only, put-hit}
-use Rattle.points.proofs.Holding.{Holds, pointOf-is}
+use Rattle.points.proofs.Holding.{Holds}
 use Rattle.edgepoints.proofs.Meeting.{stage, meets}
-use Rattle.edgepoints.proofs.Writes.{meet-only, finish-put, border-put, start-put}
+use Rattle.edgepoints.proofs.Writes.{meet-only, border-way, inner-way, corner-is}
 use Rattle.edgepoints.proofs.Written.{written-only}
 
-module _ (n a : ℕ) (p q l : List ℤ) (room : 3 * n + 3 * a + 2 < length l) where
-  meet-is : (v k : ℕ) → k < 3 → value (meet n a p q l) (3 * n + 3 * v + k) ≡ cond (eqb a v) (met (value l (3 * n + 3 * v + k)) (value p k) (value q k)) (value l (3 * n + 3 * v + k))
+module _ (n : ℕ) (a b : Corner) (l : List ℤ) (room : 3 * n + 3 * a .vertex + 2 < length l) where
+  meet-is : (v k : ℕ) → k < 3 → value (meet n a b l) (3 * n + 3 * v + k) ≡ cond (eqb (a .vertex) v) (meeting a b l (3 * n + 3 * v) k) (value l (3 * n + 3 * v + k))
   unfolding meet
-  meet-is v k lk = by (ℕ-discrete a v)
+  meet-is v k lk = by (ℕ-discrete (a .vertex) v)
     where
-      by : Dec (a ≡ v) → value (meet n a p q l) (3 * n + 3 * v + k) ≡ cond (eqb a v) (met (value l (3 * n + 3 * v + k)) (value p k) (value q k)) (value l (3 * n + 3 * v + k))
-      by (yes e) = rw (eq-eqb a v e, ← e) (put-hit (3 * n + 3 * a) (λ k. met (value l (3 * n + 3 * a + k)) (value p k) (value q k)) l room k lk)
-      by (no e) = rw (ne-eqb a v e) (meet-only n a p q l .other (3 * n + 3 * v + k) (λ x y. e (omega arith)))
+      by : Dec (a .vertex ≡ v) → value (meet n a b l) (3 * n + 3 * v + k) ≡ cond (eqb (a .vertex) v) (meeting a b l (3 * n + 3 * v) k) (value l (3 * n + 3 * v + k))
+      by (yes e) = rw (eq-eqb (a .vertex) v e, ← e) (put-hit (3 * n + 3 * a .vertex) (meeting a b l (3 * n + 3 * a .vertex)) l room k lk)
+      by (no e) = rw (ne-eqb (a .vertex) v e) (meet-only n a b l .other (3 * n + 3 * v + k) (λ x y. e (omega arith)))
 
 -- what stands where a vertex is v speaks of v
 at-vertex : (a v : ℕ) (f : ℕ → ℤ) (w : ℤ) → cond (eqb a v) (f a) w ≡ cond (eqb a v) (f v) w
@@ -64,27 +66,21 @@ module _ (twin vert edge : List ℕ) (n : ℕ) (points l : List ℤ) (edged : Ed
     x = coordinate points k v
 
     module _ (h : ℕ) (b : h < length vert) (m : List ℤ) (long : length m ≡ length l) where
-      abbrev p : List ℤ
-      p = pointOf l (cell vert h)
+      abbrev from : Corner
+      from = cornerOf vert l h
 
-      abbrev q : List ℤ
-      q = pointOf l (far vert h)
+      abbrev to : Corner
+      to = cornerOf vert l (NEXT h)
 
-      abbrev r : List ℤ
-      r = pointOf l (cell vert (PREV h))
+      abbrev whole : Halfedge
+      whole = halfedgeOf twin vert edge l h
 
       -- an inner halfedge leaves the vertices alone
       inner-keeps : cell twin h ≢ marker → value (putEdge twin vert edge n l h m) at ≡ value m at
-      unfolding finishEdge startEdge
-      inner-keeps u = by (decLt (cell twin h) h)
-        where
-          by : Dec (cell twin h < h) → value (putEdge twin vert edge n l h m) at ≡ value m at
-          by (yes t) =
-              ap (λ y. value y at) (finish-put twin vert edge n l h m (omega (arith, edged .short)) t)
-              ∙ put-only (6 * n + 3 * cell edge h) (λ k. finished (value m (6 * n + 3 * cell edge h + k)) (value r k)) m .other at (λ x y. omega arith)
-          by (no t) =
-              ap (λ y. value y at) (start-put twin vert edge n l h m (omega (arith, t)) u)
-              ∙ put-only (6 * n + 3 * cell edge h) (λ k. started (value p k) (value q k) (value r k)) m .other at (λ x y. omega arith)
+      unfolding putEdge innerEdge
+      inner-keeps u =
+          ap (λ y. value y at) (inner-way n whole m u)
+          ∙ put-only (6 * n + 3 * cell edge h) (inner n whole m) m .other at (λ x y. omega arith)
 
       -- a border halfedge has its ends meet
       abbrev once : ℤ → ℤ
@@ -93,30 +89,30 @@ module _ (twin vert edge : List ℕ) (n : ℕ) (points l : List ℤ) (edged : Ed
       abbrev twice : ℤ → ℤ
       twice now = cond (eqb (far vert h) v) (met now x (coordinate points k (cell vert h))) now
 
-      from-is : value p k ≡ coordinate points k (cell vert h)
-      from-is = pointOf-is l (cell vert h) k lk ∙ holds .same (cell vert h) k (edged .cornered .below h b) lk
+      from-is : value (from .point) k ≡ coordinate points k (cell vert h)
+      from-is = corner-is (edged .cornered) holds h k b lk
 
-      end-is : value q k ≡ coordinate points k (far vert h)
-      end-is = pointOf-is l (far vert h) k lk ∙ holds .same (far vert h) k (far-below vert n (edged .cornered) h b) lk
+      to-is : value (to .point) k ≡ coordinate points k (far vert h)
+      to-is = corner-is (edged .cornered) holds (NEXT h) k (next-below (edged .cornered .whole) b) lk
 
       ends-meet : cell twin h ≡ marker → value (putEdge twin vert edge n l h m) at ≡ twice (once (value m at))
-      unfolding borderEdge
+      unfolding putEdge borderEdge
       ends-meet t =
           let la = edged .cornered .below h b in
           let lb = far-below vert n (edged .cornered) h b in
-          let mid = put (6 * n + 3 * cell edge h) (λ k. E1 (value p k) (value q k)) m in
-          let only = put-only (6 * n + 3 * cell edge h) (λ k. E1 (value p k) (value q k)) m in
+          let mid = put (6 * n + 3 * cell edge h) (middle whole) m in
+          let only = put-only (6 * n + 3 * cell edge h) (middle whole) m in
           let fits : 6 * n ≤ length mid = rw (only .long, long) (omega arith) in
-          let met-a = meet n (cell vert h) p q mid in
-          let second : value (meet n (far vert h) q p met-a) at ≡ cond (eqb (far vert h) v) (met (value met-a at) (value q k) (value p k)) (value met-a at) =
-          meet-is n (far vert h) q p met-a (rw (meet-only n (cell vert h) p q mid .long) (omega (arith, fits, lb))) v k lk in
-          let first : value met-a at ≡ cond (leaves vert v h) (met (value mid at) (value p k) (value q k)) (value mid at) = meet-is n (cell vert h) p q mid (omega (arith, fits, la)) v k lk in
-          ap (λ y. value y at) (border-put twin vert edge n l h m t)
+          let met-a = meet n from to mid in
+          let second : value (meet n to from met-a) at ≡ cond (eqb (far vert h) v) (met (value met-a at) (value (to .point) k) (value (from .point) k)) (value met-a at) =
+          meet-is n to from met-a (rw (meet-only n from to mid .long) (omega (arith, fits, lb))) v k lk in
+          let first : value met-a at ≡ cond (leaves vert v h) (met (value mid at) (value (from .point) k) (value (to .point) k)) (value mid at) = meet-is n from to mid (omega (arith, fits, la)) v k lk in
+          ap (λ y. value y at) (border-way n whole m t)
           ∙ second
-          ∙ rw (end-is, from-is) (at-vertex (far vert h) v (λ u. met (value met-a at) (coordinate points k u) (coordinate points k (cell vert h))) (value met-a at))
+          ∙ rw (to-is, from-is) (at-vertex (far vert h) v (λ u. met (value met-a at) (coordinate points k u) (coordinate points k (cell vert h))) (value met-a at))
           ∙ ap twice
           (first
-          ∙ rw (from-is, end-is) (at-vertex (cell vert h) v (λ u. met (value mid at) (coordinate points k u) (coordinate points k (far vert h))) (value mid at))
+          ∙ rw (from-is, to-is) (at-vertex (cell vert h) v (λ u. met (value mid at) (coordinate points k u) (coordinate points k (far vert h))) (value mid at))
           ∙ ap once (only .other at (λ x y. omega arith)))
 
     -- how many border neighbours v has met after i halfedges

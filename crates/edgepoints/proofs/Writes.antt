@@ -1,18 +1,21 @@
 -- The pass over the edges, one halfedge at a time. Assumes nothing.
---     pointOf-is, near-of, near                  a point's coordinates, and that they can be read
---     finish-way, border-way, start-way          the three ways of a step, also with the tables' own cells:
---     finish-put, border-put, start-put
---     step-only, put-step-only, edged-on, putEdge-same   what a step leaves as it was
---     triangle-is, triangle-asked, triangle-readable     a triangle's steps from what was read of it
+--     meet-only, step-only, put-step-only        the cells that a step can change
+--     own, step-cell, own-border, own-start, own-finish   what it leaves in the cells of its edge
+--     border-way, inner-way                      the two ways of a step
+--     edged-on, putEdge-same                     a step, wherever the level's points stand
+--     corner-is, halfedge-is                     what is read of a halfedge
+--     asked-two, asked-three, turns-are          three halfedges in turn
+--     none-among, inner-turns, inner-asked       where none of the three is on a border
 --     triangle-asks, triangle-same               the loop over the triangles
 use Prim.Native.Nat.{ℕ, _+_, _*_, _≤_, _<_}
 use mathlib.Core.Path.{_≡_, refl, sym, ap, _∙_, subst}
 use mathlib.Core.Logic.{_≢_}
-use mathlib.Core.Bool.{false}
+use mathlib.Core.Bool.{cond, false}
 use mathlib.Core.List.{List}
+use native.Mathlib.Decide.{ℕ-discrete}
 use native.Mathlib.Nat.{le-refl}
 use native.Mathlib.Omega.{arith}
-use lib.Dec.{eqb, ltb}
+use lib.Dec.{eqb}
 use lib.IntN.{ℤ}
 use lib.ListN.{length, take}
 use borrow.Author.Tests.{eq-eqb, ne-eqb, lt-ltb, le-ltb, eqb-false}
@@ -20,57 +23,78 @@ use Rattle.laws.proofs.Tests.{or-false₃}
 use Rattle.laws.specs.Internal.Steps.{steps}
 use Rattle.laws.proofs.Steps.{steps-more, steps-three-on}
 use Rattle.laws.proofs.Cases.{cond-keeps}
-use Rattle.halfedges.specs.Cage.{PREV, marker, cell}
-use Rattle.halfedges.specs.Corners.{corners}
-use Rattle.halfedges.proofs.Triangle.{prev-below, next-0, next-1, next-2, prev-0, prev-1, prev-2}
+use Rattle.halfedges.specs.Cage.{NEXT, PREV, marker, cell}
+use Rattle.halfedges.proofs.Triangle.{next-below, prev-below}
+use Rattle.edgepoints.specs.declared.edges.Corner.{Corner}
+use Rattle.edgepoints.specs.declared.edges.Halfedge.{Halfedge}
 use Rattle.edgepoints.specs.declared.edges.Triangle.{Triangle}
-use Rattle.points.specs.PointRules.{E1}
-use Rattle.points.specs.NextPoints.{far}
+use Rattle.points.specs.NextPoints.{coordinate}
 use Rattle.points.specs.Internal.Relied.{Cornered}
 use Rattle.points.specs.Internal.Cells.{value, put, pointOf, Near}
-use Rattle.points.specs.Internal.Parts.{met, started, finished}
-use Rattle.edgepoints.specs.Internal.Edges.{meet, borderEdge, startEdge, finishEdge, innerEdge, stepEdge, Asks, triangleOf, stepFirst, stepSecond, stepThird, stepTriangle, AsksTriangle, borderAmong, putEdge, putTriangle, Edged, Started, StartedTriangle}
+use Rattle.edgepoints.specs.Internal.Edges.{Spanned, middle, start, finish, meeting, meet, place, borderEdge, inner, innerEdge, AsksInner, stepEdge, Asks, cornerOf, between, halfedgeOf, triangleOf, Readable, borderAmong, inTurn, AskedInTurn, putEdge, Edged, Started}
 use Rattle.points.proofs.Range.{any-in-range}
-use Rattle.points.proofs.Only.{three, Only, only-on, only-wider, only-take, only-steps, put-only}
-use Rattle.points.proofs.Holding.{Holds, holds-own, holds-on}
+use Rattle.points.proofs.Only.{Only, only-on, only-wider, only-take, only-steps, put-only}
+use Rattle.points.proofs.Holding.{Holds, holds-own, holds-on, pointOf-is, near-of, point-same}
 use Rattle.points.proofs.Ends.{far-below}
-use Rattle.points.proofs.Holding.{near-of, point-same}
 
-module _ (n a : ℕ) (p q l : List ℤ) where
-  pub meet-only : Only (3 * n + 3 * a) (3 * n + 3 * a + 3) l (meet n a p q l)
+module _ (n : ℕ) (a b : Corner) (l : List ℤ) where
+  pub meet-only : Only (3 * n + 3 * a .vertex) (3 * n + 3 * a .vertex + 3) l (meet n a b l)
   unfolding meet
-  meet-only = put-only (3 * n + 3 * a) (λ k. met (value l (3 * n + 3 * a + k)) (value p k) (value q k)) l
+  meet-only = put-only (3 * n + 3 * a .vertex) (meeting a b l (3 * n + 3 * a .vertex)) l
 
--- the three ways of a halfedge h with twin t
-module _ (n h t e a b : ℕ) (p q r l : List ℤ) where
-  pub finish-way : h ≤ marker → t < h → stepEdge n h t e a b p q r l ≡ finishEdge n e r l
-  unfolding stepEdge innerEdge
-  finish-way short lt = rw (ne-eqb t marker (λ m. omega arith), lt-ltb t h lt)
+-- what halfedge h leaves in the cells of its edge
+unfoldable pub own : ℕ → Halfedge → List ℤ → ℕ → ℤ
+own n h l = cond (eqb (h .twin) marker) (middle h) (inner n h l)
 
-  pub border-way : t ≡ marker → stepEdge n h t e a b p q r l ≡ borderEdge n e a b p q l
+module _ (n : ℕ) (h : Halfedge) (l : List ℤ) where
+  pub border-way : h .twin ≡ marker → stepEdge n h l ≡ borderEdge n h l
   unfolding stepEdge
-  border-way m = rw (eq-eqb t marker m)
+  border-way t = rw (eq-eqb (h .twin) marker t)
 
-  pub start-way : h ≤ t → t ≢ marker → stepEdge n h t e a b p q r l ≡ startEdge n e p q r l
-  unfolding stepEdge innerEdge
-  start-way le m = rw (ne-eqb t marker m, le-ltb t h le)
-
-  pub inner-way : t ≢ marker → stepEdge n h t e a b p q r l ≡ innerEdge n h t e p q r l
+  pub inner-way : h .twin ≢ marker → stepEdge n h l ≡ innerEdge n h l
   unfolding stepEdge
-  inner-way m = rw (ne-eqb t marker m)
+  inner-way t = rw (ne-eqb (h .twin) marker t)
+
+  pub own-border : (k : ℕ) → h .twin ≡ marker → own n h l k ≡ middle h k
+  unfolding own
+  own-border k t = rw (eq-eqb (h .twin) marker t)
+
+  pub own-start : (k : ℕ) → h .number ≤ h .twin → h .twin ≢ marker → own n h l k ≡ start h k
+  unfolding own
+  own-start k le t = rw (ne-eqb (h .twin) marker t, le-ltb (h .twin) (h .number) le)
+
+  pub own-finish : (k : ℕ) → h .number ≤ marker → h .twin < h .number → own n h l k ≡ finish h l (place n h) k
+  unfolding own
+  own-finish k short lt = rw (ne-eqb (h .twin) marker (λ m. omega arith), lt-ltb (h .twin) (h .number) lt)
+
+  -- among the edges' cells a step changes those of its own edge alone
+  pub step-cell : (c k : ℕ) → h .from .vertex < n → h .to .vertex < n → k < 3 → value (stepEdge n h l) (6 * n + 3 * c + k) ≡ value (put (place n h) (own n h l) l) (6 * n + 3 * c + k)
+  unfolding own innerEdge borderEdge
+  step-cell c k la lb lk = by (ℕ-discrete (h .twin) marker)
+    where
+      by : Dec (h .twin ≡ marker) → value (stepEdge n h l) (6 * n + 3 * c + k) ≡ value (put (place n h) (own n h l) l) (6 * n + 3 * c + k)
+      by (yes t) =
+          rw (border-way t, eq-eqb (h .twin) marker t)
+          (meet-only n (h .to) (h .from) _ .other (6 * n + 3 * c + k) (λ x y. omega arith) ∙ meet-only n (h .from) (h .to) _ .other (6 * n + 3 * c + k) (λ x y. omega arith))
+      by (no t) = rw (inner-way t, ne-eqb (h .twin) marker t)
 
   -- the cells that a step can change
-  pub step-only : (to : ℕ) → a < n → b < n → 6 * n + 3 * e + 3 ≤ to → Only (3 * n) to l (stepEdge n h t e a b p q r l)
-  unfolding stepEdge innerEdge finishEdge borderEdge startEdge
+  pub step-only : (to : ℕ) → h .from .vertex < n → h .to .vertex < n → place n h + 3 ≤ to → Only (3 * n) to l (stepEdge n h l)
+  unfolding stepEdge innerEdge borderEdge
   step-only to la lb le =
-      cond-keeps (Only (3 * n) to l) (eqb t marker)
-      (λ _. only-on (only-on (only-wider (3 * n) to (omega arith) le middle) (only-wider (3 * n) to (omega arith) (omega arith) (meet-only n a p q _))) (only-wider (3 * n) to (omega arith) (omega arith) (meet-only n b q p _)))
-      (λ _. cond-keeps (Only (3 * n) to l) (ltb t h)
-      (λ _. only-wider (3 * n) to (omega arith) le (put-only (6 * n + 3 * e) (λ k. finished (value l (6 * n + 3 * e + k)) (value r k)) l))
-      (λ _. only-wider (3 * n) to (omega arith) le (put-only (6 * n + 3 * e) (λ k. started (value p k) (value q k) (value r k)) l)))
+      cond-keeps (Only (3 * n) to l) (eqb (h .twin) marker)
+      (λ _. only-on (only-on (edge-cells (middle h)) (vertex-cells (h .from) (h .to) la _)) (vertex-cells (h .to) (h .from) lb _))
+      (λ _. edge-cells (inner n h l))
     where
-      middle : Only (6 * n + 3 * e) (6 * n + 3 * e + 3) l (put (6 * n + 3 * e) (λ k. E1 (value p k) (value q k)) l)
-      middle = put-only (6 * n + 3 * e) (λ k. E1 (value p k) (value q k)) l
+      edge-cells : (g : ℕ → ℤ) → Only (3 * n) to l (put (place n h) g l)
+      edge-cells g = only-wider (3 * n) to (omega arith) le (put-only (place n h) g l)
+
+      vertex-cells : (a b : Corner) → a .vertex < n → (m : List ℤ) → Only (3 * n) to m (meet n a b m)
+      vertex-cells a b la m = only-wider (3 * n) to (omega arith) (omega arith) (meet-only n a b m)
+
+-- the point of a corner that is read
+pub corner-is : {vert : List ℕ} {n : ℕ} {points l : List ℤ} → Cornered vert n → Holds n points l → (h k : ℕ) → h < length vert → k < 3 → value (pointOf l (cell vert h)) k ≡ coordinate points k (cell vert h)
+corner-is {vert} {n} {points} {l} cornered holds h k b lk = pointOf-is l (cell vert h) k lk ∙ holds .same (cell vert h) k (cornered .below h b) lk
 
 module _ (twin vert edge : List ℕ) (n : ℕ) where
   -- a table that differs past the level's points alone
@@ -85,112 +109,83 @@ module _ (twin vert edge : List ℕ) (n : ℕ) where
         in-range = rw (only-take (3 * n) (le-refl _) room only) (g .in-range);
       }
 
-  module _ (h : ℕ) (l : List ℤ) (edged : Edged twin vert edge n l) (b : h < length vert) where
-    -- a vertex's point can be read
-    pub near : (v : ℕ) → v < n → (3 * v + 2 < length l) × Near (pointOf l v)
-    near v lv =
-        let room = edged .room h b in
-        (omega arith, near-of l v (λ k lk. rw (holds-own n l .same v k lv lk) (any-in-range (take (3 * n) l) (edged .in-range) (3 * v + k))))
+  module _ {l : List ℤ} (g : Edged twin vert edge n l) where
+    -- a corner's point can be read
+    near : (h : ℕ) → h < length vert → (3 * cell vert h + 2 < length l) × Near (pointOf l (cell vert h))
+    near h b =
+        let room = g .room h b in
+        let lv = g .cornered .below h b in
+        (omega arith, near-of l (cell vert h) (λ k lk. rw (holds-own n l .same (cell vert h) k lv lk) (any-in-range (take (3 * n) l) (g .in-range) (3 * cell vert h + k))))
 
-  -- the step, wherever the level's points stand
-  pub putEdge-same : {points l : List ℤ} → (g : Edged twin vert edge n l) → Holds n points l → (h : ℕ) → h < length vert → (m : List ℤ) → putEdge twin vert edge n l h m ≡ putEdge twin vert edge n points h m
-  unfolding putEdge
-  putEdge-same g holds h b m =
-      rw (point-same holds (cell vert h) (g .cornered .below h b), point-same holds (far vert h) (far-below vert n (g .cornered) h b), point-same holds (cell vert (PREV h)) (g .cornered .below (PREV h) (prev-below (g .cornered .whole) b)))
+    pub spanned : (h : ℕ) → h < length vert → Spanned (halfedgeOf twin vert edge l h)
+    spanned h b =
+        record {
+          from-near = near h b .1;
+          to-near = near (NEXT h) (next-below (g .cornered .whole) b) .1;
+          opposite-near = near (PREV h) (prev-below (g .cornered .whole) b) .1;
+        }
+
+    pub readable : (t : ℕ) → 3 * t + 2 < length vert → Readable twin vert edge l t
+    readable t b = record { in-twin = rw (g .twin-long) b; in-vert = b; in-edge = rw (g .edge-long) b; pointed = λ h lh. near h lh .0 }
+
+    -- the same halfedge, wherever the level's points stand
+    module _ {points : List ℤ} (holds : Holds n points l) where
+      corner-same : (h : ℕ) → h < length vert → cornerOf vert l h ≡ cornerOf vert points h
+      corner-same h b = λ i. record { vertex = cell vert h; point = point-same holds (cell vert h) (g .cornered .below h b) i }
+
+      halfedge-same : (h : ℕ) → h < length vert → halfedgeOf twin vert edge l h ≡ halfedgeOf twin vert edge points h
+      halfedge-same h b =
+          λ i. between twin edge h (corner-same h b i) (corner-same (NEXT h) (next-below (g .cornered .whole) b) i) (corner-same (PREV h) (prev-below (g .cornered .whole) b) i)
+
+      pub putEdge-same : (h : ℕ) → h < length vert → (m : List ℤ) → putEdge twin vert edge n l h m ≡ putEdge twin vert edge n points h m
+      unfolding putEdge
+      putEdge-same h b m = ap (λ x. stepEdge n x m) (halfedge-same h b)
 
   pub put-step-only : (points : List ℤ) (to : ℕ) → Cornered vert n → (h : ℕ) → h < length vert → 6 * n + 3 * cell edge h + 3 ≤ to → (m : List ℤ) → Only (3 * n) to m (putEdge twin vert edge n points h m)
   unfolding putEdge
-  put-step-only points to cornered h b le m =
-      step-only n h (cell twin h) (cell edge h) (cell vert h) (far vert h) (pointOf points (cell vert h)) (pointOf points (far vert h)) (pointOf points (cell vert (PREV h))) m to (cornered .below h b) (far-below vert n cornered h b) le
+  put-step-only points to cornered h b le m = step-only n (halfedgeOf twin vert edge points h) m to (cornered .below h b) (far-below vert n cornered h b) le
 
-  -- the ways of halfedge h, with a level's points
-  module _ (points : List ℤ) (h : ℕ) (m : List ℤ) where
-    abbrev pub at-from : List ℤ
-    at-from = pointOf points (cell vert h)
+-- halfedge h between the corners that were read
+module _ (twin vert edge : List ℕ) (l : List ℤ) (h : ℕ) where
+  pub halfedge-is : {i j : ℕ} {a b c : Corner} {r : Halfedge} → NEXT h ≡ i → PREV h ≡ j → a ≡ cornerOf vert l h → b ≡ cornerOf vert l i → c ≡ cornerOf vert l j → r ≡ between twin edge h a b c → r ≡ halfedgeOf twin vert edge l h
+  halfedge-is next prev ea eb ec e =
+      e ∙ (λ x. between twin edge h (ea x) ((eb ∙ ap (cornerOf vert l) (sym next)) x) ((ec ∙ ap (cornerOf vert l) (sym prev)) x))
 
-    abbrev pub at-end : List ℤ
-    at-end = pointOf points (far vert h)
+-- three halfedges in turn
+module _ {asks : Halfedge → List ℤ → Type 0} {f : Halfedge → List ℤ → List ℤ} {x : Triangle} {l : List ℤ} (asked : AskedInTurn asks f x l) {a : List ℤ} (ea : a ≡ f (x .first) l) where
+  pub asked-two : asks (x .second) a
+  asked-two = subst (asks (x .second)) (sym ea) (asked .two)
 
-    abbrev pub at-opposite : List ℤ
-    at-opposite = pointOf points (cell vert (PREV h))
+  pub asked-three : {b : List ℤ} → b ≡ f (x .second) a → asks (x .third) b
+  asked-three eb = subst (asks (x .third)) (sym (eb ∙ ap (f (x .second)) ea)) (asked .three)
 
-    pub finish-put : h ≤ marker → cell twin h < h → putEdge twin vert edge n points h m ≡ finishEdge n (cell edge h) at-opposite m
-    unfolding putEdge
-    finish-put short t = finish-way n h (cell twin h) (cell edge h) (cell vert h) (far vert h) at-from at-end at-opposite m short t
+  pub turns-are : {b c : List ℤ} → b ≡ f (x .second) a → c ≡ f (x .third) b → c ≡ inTurn f x l
+  unfolding inTurn
+  turns-are eb ec = ec ∙ ap (f (x .third)) (eb ∙ ap (f (x .second)) ea)
 
-    pub border-put : cell twin h ≡ marker → putEdge twin vert edge n points h m ≡ borderEdge n (cell edge h) (cell vert h) (far vert h) at-from at-end m
-    unfolding putEdge
-    border-put t = border-way n h (cell twin h) (cell edge h) (cell vert h) (far vert h) at-from at-end at-opposite m t
+-- where none of the three is on a border
+module _ (n : ℕ) (x : Triangle) (l : List ℤ) (none : borderAmong x ≡ false) where
+  none-among : (x .first .twin ≢ marker) × (x .second .twin ≢ marker) × (x .third .twin ≢ marker)
+  unfolding borderAmong
+  none-among = let f = or-false₃ _ _ _ none in (eqb-false _ marker (f .0), eqb-false _ marker (f .1), eqb-false _ marker (f .2))
 
-    pub start-put : h ≤ cell twin h → cell twin h ≢ marker → putEdge twin vert edge n points h m ≡ startEdge n (cell edge h) at-from at-end at-opposite m
-    unfolding putEdge
-    start-put t u = start-way n h (cell twin h) (cell edge h) (cell vert h) (far vert h) at-from at-end at-opposite m t u
+  one-inner : stepEdge n (x .first) l ≡ innerEdge n (x .first) l
+  one-inner = inner-way n (x .first) l (none-among .0)
 
--- none of three is on a border
-pub none-among : (twins : List ℕ) → borderAmong twins ≡ false → (cell twins 0 ≢ marker) × (cell twins 1 ≢ marker) × (cell twins 2 ≢ marker)
-unfolding borderAmong
-none-among twins e = let f = or-false₃ _ _ _ e in (eqb-false _ marker (f .0), eqb-false _ marker (f .1), eqb-false _ marker (f .2))
+  two-inner : stepEdge n (x .second) (stepEdge n (x .first) l) ≡ innerEdge n (x .second) (innerEdge n (x .first) l)
+  two-inner = inner-way n (x .second) _ (none-among .1) ∙ ap (innerEdge n (x .second)) one-inner
 
--- a triangle's steps from what was read of it
-module _ (twin vert edge : List ℕ) (n : ℕ) (l : List ℤ) (t : ℕ) where
-  abbrev read : Triangle
-  read = triangleOf twin vert edge l t
+  pub inner-turns : inTurn (innerEdge n) x l ≡ inTurn (stepEdge n) x l
+  unfolding inTurn
+  inner-turns = sym (inner-way n (x .third) _ (none-among .2) ∙ ap (innerEdge n (x .third)) two-inner)
 
-  first-is : (m : List ℤ) → stepFirst n (3 * t) read m ≡ putEdge twin vert edge n l (3 * t) m
-  unfolding putEdge
-  first-is m = rw (next-0 t, prev-0 t)
-
-  second-is : (m : List ℤ) → stepSecond n (3 * t) read m ≡ putEdge twin vert edge n l (3 * t + 1) m
-  unfolding putEdge
-  second-is m = rw (next-1 t, prev-1 t)
-
-  third-is : (m : List ℤ) → stepThird n (3 * t) read m ≡ putEdge twin vert edge n l (3 * t + 2) m
-  unfolding putEdge
-  third-is m = rw (next-2 t, prev-2 t)
-
-  pub triangle-is : (m : List ℤ) → stepTriangle n (3 * t) read m ≡ putTriangle twin vert edge n l t m
-  unfolding stepTriangle putTriangle
-  triangle-is m =
-      third-is _ ∙ ap (putEdge twin vert edge n l (3 * t + 2)) (second-is _ ∙ ap (putEdge twin vert edge n l (3 * t + 1)) (first-is m))
-
-  module _ (edged : Edged twin vert edge n l) (b : 3 * t + 2 < length vert) where
-    -- what the step of halfedge h asks, with its triangle's other two
-    asks : (h i j : ℕ) → h < length vert → i < length vert → j < length vert → (m : List ℤ) → length m ≡ length l → Started twin edge n h m → Asks n h (cell twin h) (cell edge h) (cell vert h) (cell vert i) (pointOf l (cell vert h)) (pointOf l (cell vert i)) (pointOf l (cell vert j)) m
-    asks h i j lh li lj m long started =
-        record {
-          in-a = edged .cornered .below h lh;
-          in-b = edged .cornered .below i li;
-          inner = record {
-            room = rw long (edged .room h lh);
-            from-near = near twin vert edge n h l edged lh (cell vert h) (edged .cornered .below h lh) .1;
-            end-near = near twin vert edge n h l edged lh (cell vert i) (edged .cornered .below i li) .1;
-            opposite-near = near twin vert edge n h l edged lh (cell vert j) (edged .cornered .below j lj) .1;
-            started-there = started;
-          };
-        }
-
-    step-long : (h : ℕ) → h < length vert → (m : List ℤ) → length m ≡ length l → length (putEdge twin vert edge n l h m) ≡ length l
-    step-long h lh m e = put-step-only twin vert edge n l _ (edged .cornered) h lh (le-refl _) m .long ∙ e
-
-    pub triangle-asked : StartedTriangle twin vert edge n l t l → AsksTriangle n (3 * t) read l
-    triangle-asked started =
-        let h0 : 3 * t < length vert = omega arith in
-        let h1 : 3 * t + 1 < length vert = omega arith in
-        let one = step-long (3 * t) h0 l refl in
-        let two = step-long (3 * t + 1) h1 (putEdge twin vert edge n l (3 * t) l) one in
-        record {
-          whole = omega (arith, edged .short);
-          one = asks (3 * t) (3 * t + 1) (3 * t + 2) h0 h1 b l refl (started .first);
-          two = rw (first-is l) (asks (3 * t + 1) (3 * t + 2) (3 * t) h1 b h0 (putEdge twin vert edge n l (3 * t) l) one (started .second));
-          three = rw (first-is l, second-is (putEdge twin vert edge n l (3 * t) l)) (asks (3 * t + 2) (3 * t) (3 * t + 1) b h0 h1 (putEdge twin vert edge n l (3 * t + 1) (putEdge twin vert edge n l (3 * t) l)) two (started .third));
-        }
-
-    -- reading the triangle's corners
-    pub triangle-readable : ((i : ℕ) → i < 3 → 3 * cell (corners vert t) i + 2 < length l)
-    triangle-readable = three (λ i. 3 * cell (corners vert t) i + 2 < length l) (at (3 * t) (omega arith)) (at (3 * t + 1) (omega arith)) (at (3 * t + 2) b)
-      where
-        at : (h : ℕ) → h < length vert → 3 * cell vert h + 2 < length l
-        at h lh = near twin vert edge n h l edged lh (cell vert h) (edged .cornered .below h lh) .0
+  pub inner-asked : AskedInTurn (Asks n) (stepEdge n) x l → AskedInTurn (AsksInner n) (innerEdge n) x l
+  inner-asked asked =
+      record {
+        one = asked .one .inner-asks;
+        two = subst (AsksInner n (x .second)) one-inner (asked .two .inner-asks);
+        three = subst (AsksInner n (x .third)) two-inner (asked .three .inner-asks);
+      }
 
 -- the loop over the triangles
 module _ (twin vert edge : List ℕ) (n : ℕ) (l : List ℤ) (edged : Edged twin vert edge n l) where
@@ -217,24 +212,42 @@ module _ (twin vert edge : List ℕ) (n : ℕ) (l : List ℤ) (edged : Edged twi
     same : (h : ℕ) → h < length vert → (y : List ℤ) → putEdge twin vert edge n m h y ≡ putEdge twin vert edge n l h y
     same h lh y = putEdge-same twin vert edge n edged-now (held (3 * t) (omega arith)) h lh y
 
-    pub triangle-asks : ((h : ℕ) → h < length vert → Started twin edge n h (steps h step l)) → Edged twin vert edge n m × (3 * t + 2 < length vert) × StartedTriangle twin vert edge n m t m
-    triangle-asks started =
-        let e : 3 * t + 2 ≡ 3 * t + 1 + 1 = omega arith in
-        let one : steps (3 * t + 1) step l ≡ putEdge twin vert edge n m (3 * t) m = steps-more step l (3 * t) ∙ sym (same (3 * t) (omega arith) m) in
-        let two : steps (3 * t + 2) step l ≡ putEdge twin vert edge n m (3 * t + 1) (putEdge twin vert edge n m (3 * t) m) =
-        ap (λ i. steps i step l) e ∙ steps-more step l (3 * t + 1) ∙ sym (same (3 * t + 1) (omega arith) (steps (3 * t + 1) step l)) ∙ ap (putEdge twin vert edge n m (3 * t + 1)) one in (
-          edged-now,
-          b,
-          record {
-            first = started (3 * t) (omega arith);
-            second = subst (Started twin edge n (3 * t + 1)) one (started (3 * t + 1) (omega arith));
-            third = subst (Started twin edge n (3 * t + 2)) two (started (3 * t + 2) b);
-          },
-        )
+    one-on : steps (3 * t + 1) step l ≡ putEdge twin vert edge n m (3 * t) m
+    one-on = steps-more step l (3 * t) ∙ sym (same (3 * t) (omega arith) m)
 
-    pub triangle-same : {y z : List ℤ} → y ≡ m → z ≡ putTriangle twin vert edge n y t y → z ≡ steps (3 * (t + 1)) step l
-    unfolding putTriangle
+    two-on : steps (3 * t + 2) step l ≡ putEdge twin vert edge n m (3 * t + 1) (putEdge twin vert edge n m (3 * t) m)
+    two-on =
+        let e : 3 * t + 2 ≡ 3 * t + 1 + 1 = omega arith in
+        ap (λ i. steps i step l) e ∙ steps-more step l (3 * t + 1) ∙ sym (same (3 * t + 1) (omega arith) (steps (3 * t + 1) step l))
+        ∙ ap (putEdge twin vert edge n m (3 * t + 1)) one-on
+
+    module _ (started : (h : ℕ) → h < length vert → Started twin edge n h (steps h step l)) where
+      asked-at : (h : ℕ) → h < length vert → Asks n (halfedgeOf twin vert edge m h) (steps h step l)
+      asked-at h lh =
+          record {
+            in-from = edged .cornered .below h lh;
+            in-to = far-below vert n (edged .cornered) h lh;
+            inner-asks = record {
+              spanned = spanned twin vert edge n edged-now h lh;
+              room = rw (after-only h (omega arith) .long) (edged .room h lh);
+              begun = started h lh;
+            };
+          }
+
+      pub triangle-asks : Readable twin vert edge m t × AskedInTurn (Asks n) (stepEdge n) (triangleOf twin vert edge m t) m
+      unfolding putEdge
+      triangle-asks = (
+        readable twin vert edge n edged-now t b,
+        record {
+          one = asked-at (3 * t) (omega arith);
+          two = subst (Asks n (halfedgeOf twin vert edge m (3 * t + 1))) one-on (asked-at (3 * t + 1) (omega arith));
+          three = subst (Asks n (halfedgeOf twin vert edge m (3 * t + 2))) two-on (asked-at (3 * t + 2) b);
+        },
+      )
+
+    pub triangle-same : {y z : List ℤ} → y ≡ m → z ≡ inTurn (stepEdge n) (triangleOf twin vert edge y t) y → z ≡ steps (3 * (t + 1)) step l
+    unfolding inTurn putEdge
     triangle-same {y} {z} e d =
         steps-three-on step l t refl
-        (d ∙ ap (λ y. putTriangle twin vert edge n y t y) e ∙ same (3 * t + 2) b _
+        (d ∙ ap (λ y. inTurn (stepEdge n) (triangleOf twin vert edge y t) y) e ∙ same (3 * t + 2) b _
         ∙ ap (step (3 * t + 2)) (same (3 * t + 1) (omega arith) _ ∙ ap (step (3 * t + 1)) (same (3 * t) (omega arith) m)))

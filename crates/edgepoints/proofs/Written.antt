@@ -13,35 +13,26 @@ use lib.IntN.{ℤ, natAbs}
 use lib.ListN.{length}
 use borrow.Author.Tests.{eq-eqb, ne-eqb, lt-ltb, le-ltb, ltb-true}
 use Rattle.laws.specs.Internal.Steps.{steps}
-use Rattle.halfedges.specs.Cage.{PREV, marker, cell, border}
-use Rattle.halfedges.proofs.Triangle.{prev-below}
-use Rattle.points.specs.PointRules.{E1, E2}
+use Rattle.halfedges.specs.Cage.{NEXT, PREV, marker, cell, border}
+use Rattle.halfedges.proofs.Triangle.{next-below, prev-below}
+use Rattle.edgepoints.specs.declared.edges.Halfedge.{Halfedge}
+use Rattle.points.specs.PointRules.{E2}
 use Rattle.points.specs.NextPoints.{coordinate, far, edgePoint, carrier}
 use Rattle.points.specs.Operations.{most-coordinate}
 use Rattle.points.specs.Internal.Relied.{Carried}
 use Rattle.points.specs.Operations.{InRange}
 use Rattle.points.specs.Internal.Cells.{value, put, pointOf}
 use Rattle.points.specs.Internal.Parts.{started, finished}
-use Rattle.edgepoints.specs.Internal.Edges.{borderEdge, startEdge, finishEdge, Edged, Started, putEdge}
+use Rattle.edgepoints.specs.Internal.Edges.{halfedgeOf, Edged, Started, putEdge}
 use Rattle.points.proofs.Numerators.{started-at-most}
 use Rattle.points.proofs.Range.{any-in-range}
 use Rattle.points.proofs.Only.{Only, only-steps, put-only, put-hit}
 use Rattle.points.proofs.Holding.{Holds}
 use Rattle.points.proofs.Ends.{far-below}
 use Rattle.points.proofs.Carriers.{lowest-carrier, carrier-carries, carrier-first, carrier-below, first-carrier, twin-twin}
-use Rattle.points.proofs.Holding.{pointOf-is}
-use Rattle.edgepoints.proofs.Writes.{meet-only, put-step-only, finish-put, border-put, start-put}
-
--- meeting changes no edge's cells
-border-cell : (n e c k : ℕ) → k < 3 → (a b : ℕ) → a < n → b < n → (p q l : List ℤ) → value (borderEdge n e a b p q l) (6 * n + 3 * c + k) ≡ value (put (6 * n + 3 * e) (λ k. E1 (value p k) (value q k)) l) (6 * n + 3 * c + k)
-unfolding borderEdge
-border-cell n e c k lk a b la lb p q l =
-    meet-only n b q p _ .other (6 * n + 3 * c + k) (λ x y. omega arith) ∙ meet-only n a p q _ .other (6 * n + 3 * c + k) (λ x y. omega arith)
+use Rattle.edgepoints.proofs.Writes.{own, own-border, own-start, own-finish, step-cell, corner-is, put-step-only}
 
 module _ (twin vert edge : List ℕ) (n : ℕ) (points l : List ℤ) (edged : Edged twin vert edge n l) (holds : Holds n points l) (e : ℕ) (carried : Carried twin edge e) (room : 6 * n + 3 * e ≤ length l) where
-  H : ℕ
-  H = length vert
-
   -- a halfedge of the level, in each table
   in-edge : {h : ℕ} → h < length vert → h < length edge
   in-edge b = omega (arith, edged .edge-long)
@@ -55,13 +46,13 @@ module _ (twin vert edge : List ℕ) (n : ℕ) (points l : List ℤ) (edged : Ed
 
   -- the points that halfedge h reads
   from-is : (h k : ℕ) → h < length vert → k < 3 → value (pointOf l (cell vert h)) k ≡ coordinate points k (cell vert h)
-  from-is h k b lk = pointOf-is l (cell vert h) k lk ∙ holds .same (cell vert h) k (edged .cornered .below h b) lk
+  from-is = corner-is (edged .cornered) holds
 
   end-is : (h k : ℕ) → h < length vert → k < 3 → value (pointOf l (far vert h)) k ≡ coordinate points k (far vert h)
-  end-is h k b lk = pointOf-is l (far vert h) k lk ∙ holds .same (far vert h) k (far-below vert n (edged .cornered) h b) lk
+  end-is h k b = from-is (NEXT h) k (next-below (edged .cornered .whole) b)
 
   opposite-is : (h k : ℕ) → h < length vert → k < 3 → value (pointOf l (cell vert (PREV h))) k ≡ coordinate points k (cell vert (PREV h))
-  opposite-is h k b lk = from-is (PREV h) k (prev-below (edged .cornered .whole) b) lk
+  opposite-is h k b = from-is (PREV h) k (prev-below (edged .cornered .whole) b)
 
   pub written-only : (i : ℕ) → i ≤ length vert → Only (3 * n) (6 * n + 3 * e) l (after i)
   written-only = only-steps (3 * n) (6 * n + 3 * e) (length vert) (putEdge twin vert edge n l) l (λ h b m _. let c = carried .below h (in-edge b) in put-step-only twin vert edge n l (6 * n + 3 * e) (edged .cornered) h b (omega arith) m)
@@ -72,68 +63,36 @@ module _ (twin vert edge : List ℕ) (n : ℕ) (points l : List ℤ) (edged : Ed
   inner-is h k t = rw (ne-eqb _ marker t)
 
   -- h starts edge c, or finishes it
-  module _ (c k : ℕ) (lc : c < e) (lk : k < 3) (h : ℕ) (b : h < length vert) (m : List ℤ) (long : length m ≡ length l) where
-    below-marker : h < marker
-    below-marker = omega (arith, edged .short)
-
-    abbrev p : List ℤ
-    p = pointOf l (cell vert h)
-
-    abbrev q : List ℤ
-    q = pointOf l (far vert h)
-
-    abbrev r : List ℤ
-    r = pointOf l (cell vert (PREV h))
+  module _ (c k : ℕ) (lk : k < 3) (h : ℕ) (b : h < length vert) (m : List ℤ) (long : length m ≡ length l) where
+    abbrev x : Halfedge
+    x = halfedgeOf twin vert edge l h
 
     abbrev at : ℕ
     at = 6 * n + 3 * c + k
 
-    border-at : value (borderEdge n (cell edge h) (cell vert h) (far vert h) p q m) at ≡ value (put (6 * n + 3 * cell edge h) (λ k. E1 (value p k) (value q k)) m) at
-    border-at = border-cell n (cell edge h) c k lk (cell vert h) (far vert h) (edged .cornered .below h b) (far-below vert n (edged .cornered) h b) p q m
+    now-is : value (putEdge twin vert edge n l h m) at ≡ value (put (6 * n + 3 * cell edge h) (own n x m) m) at
+    unfolding putEdge
+    now-is = step-cell n x m c k (edged .cornered .below h b) (far-below vert n (edged .cornered) h b) lk
 
     -- no other edge's cells are touched
     other-edge : cell edge h ≢ c → value (putEdge twin vert edge n l h m) at ≡ value m at
-    unfolding finishEdge startEdge
-    other-edge d = by (decLt (cell twin h) h) (ℕ-discrete (cell twin h) marker)
-      where
-        by : Dec (cell twin h < h) → Dec (cell twin h ≡ marker) → value (putEdge twin vert edge n l h m) at ≡ value m at
-        by (yes t) _ =
-            ap (λ y. value y at) (finish-put twin vert edge n l h m (omega (arith, below-marker)) t)
-            ∙ put-only (6 * n + 3 * cell edge h) (λ k. finished (value m (6 * n + 3 * cell edge h + k)) (value r k)) m .other at (λ x y. d (omega arith))
-        by (no _) (yes t) =
-            ap (λ y. value y at) (border-put twin vert edge n l h m t)
-            ∙ border-at
-            ∙ put-only (6 * n + 3 * cell edge h) (λ k. E1 (value p k) (value q k)) m .other at (λ x y. d (omega arith))
-        by (no t) (no u) =
-            ap (λ y. value y at) (start-put twin vert edge n l h m (omega (arith, t)) u)
-            ∙ put-only (6 * n + 3 * cell edge h) (λ k. started (value p k) (value q k) (value r k)) m .other at (λ x y. d (omega arith))
+    other-edge d = now-is ∙ put-only (6 * n + 3 * cell edge h) (own n x m) m .other at (λ x y. d (omega arith))
 
-    fits : 6 * n + 3 * c + 2 < length m
-    fits = rw long (omega (arith, lc, room))
+    hit : cell edge h ≡ c → value (putEdge twin vert edge n l h m) at ≡ own n x m k
+    hit e =
+        now-is
+        ∙ subst (λ c. value (put (6 * n + 3 * cell edge h) (own n x m) m) (6 * n + 3 * c + k) ≡ own n x m k) e
+        (put-hit (6 * n + 3 * cell edge h) (own n x m) m (rw long (edged .room h b)) k lk)
 
     border-hit : cell edge h ≡ c → cell twin h ≡ marker → value (putEdge twin vert edge n l h m) at ≡ edgePoint twin vert points h k
     unfolding edgePoint
-    border-hit e t =
-        ap (λ y. value y at) (border-put twin vert edge n l h m t) ∙ border-at
-        ∙ ap (λ e. value (put (6 * n + 3 * e) (λ k. E1 (value p k) (value q k)) m) at) e
-        ∙ put-hit (6 * n + 3 * c) (λ k. E1 (value p k) (value q k)) m fits k lk
-        ∙ rw (from-is h k b lk, end-is h k b lk, eq-eqb _ marker t)
+    border-hit e t = hit e ∙ own-border n x m k t ∙ rw (from-is h k b lk, end-is h k b lk, eq-eqb _ marker t)
 
     start-hit : cell edge h ≡ c → h < cell twin h → cell twin h ≢ marker → value (putEdge twin vert edge n l h m) at ≡ started (coordinate points k (cell vert h)) (coordinate points k (far vert h)) (coordinate points k (cell vert (PREV h)))
-    unfolding startEdge
-    start-hit e t u =
-        ap (λ y. value y at) (start-put twin vert edge n l h m (omega arith) u)
-        ∙ ap (λ e. value (put (6 * n + 3 * e) (λ k. started (value p k) (value q k) (value r k)) m) at) e
-        ∙ put-hit (6 * n + 3 * c) (λ k. started (value p k) (value q k) (value r k)) m fits k lk
-        ∙ rw (from-is h k b lk, end-is h k b lk, opposite-is h k b lk)
+    start-hit e t u = hit e ∙ own-start n x m k (omega arith) u ∙ rw (from-is h k b lk, end-is h k b lk, opposite-is h k b lk)
 
     finish-hit : cell edge h ≡ c → cell twin h < h → value (putEdge twin vert edge n l h m) at ≡ finished (value m at) (coordinate points k (cell vert (PREV h)))
-    unfolding finishEdge
-    finish-hit e t =
-        ap (λ y. value y at) (finish-put twin vert edge n l h m (omega (arith, below-marker)) t)
-        ∙ ap (λ e. value (put (6 * n + 3 * e) (λ k. finished (value m (6 * n + 3 * e + k)) (value r k)) m) at) e
-        ∙ put-hit (6 * n + 3 * c) (λ k. finished (value m (6 * n + 3 * c + k)) (value r k)) m fits k lk
-        ∙ ap (finished (value m at)) (opposite-is h k b lk)
+    finish-hit e t = hit e ∙ own-finish n x m k (omega (arith, edged .short)) t ∙ rw (e, opposite-is h k b lk)
 
   module _ (c k : ℕ) (lc : c < e) (lk : k < 3) where
     -- the lower halfedge of edge c, and its twin
@@ -163,12 +122,12 @@ module _ (twin vert edge : List ℕ) (n : ℕ) (points l : List ℤ) (edged : Ed
 
         first : low ≡ i → Dec (high ≡ marker) → value (after (suc i)) (6 * n + 3 * c + k) ≡ grown (suc i)
         first q (yes t) =
-            rw (eq-eqb high marker t) (subst (λ j. value (after (suc i)) (6 * n + 3 * c + k) ≡ edgePoint twin vert points j k) (sym q) (border-hit c k lc lk i b (after i) long (sym (ap (cell edge) q) ∙ low-carries) (sym (ap (cell twin) q) ∙ t)))
+            rw (eq-eqb high marker t) (subst (λ j. value (after (suc i)) (6 * n + 3 * c + k) ≡ edgePoint twin vert points j k) (sym q) (border-hit c k lk i b (after i) long (sym (ap (cell edge) q) ∙ low-carries) (sym (ap (cell twin) q) ∙ t)))
         first q (no t) =
             let up : low < high = ltb-true low high (rw (ne-eqb high marker t) at (carrier-first twin edge e carried c lc)) in
             rw (ne-eqb high marker t, le-ltb high (suc i) (omega (arith, q, up)))
             (subst (λ j. value (after (suc i)) (6 * n + 3 * c + k) ≡ started (coordinate points k (cell vert j)) (coordinate points k (far vert j)) (coordinate points k (cell vert (PREV j)))) (sym q)
-            (start-hit c k lc lk i b (after i) long (sym (ap (cell edge) q) ∙ low-carries) (rw q at up) (rw q at t)))
+            (start-hit c k lk i b (after i) long (sym (ap (cell edge) q) ∙ low-carries) (rw q at up) (rw q at t)))
 
         -- the twin's turn
         second : i ≡ high → value (after i) (6 * n + 3 * c + k) ≡ grown i → (high ≡ marker → ⊥) → value (after (suc i)) (6 * n + 3 * c + k) ≡ grown (suc i)
@@ -178,17 +137,17 @@ module _ (twin vert edge : List ℕ) (n : ℕ) (points l : List ℤ) (edged : Ed
             let carries : cell edge i ≡ c = ap (cell edge) q ∙ carried .twin-same low (in-twin low-below) t ∙ low-carries in
             let now = rw (ne-eqb high marker t, le-ltb high i (omega (arith, q))) at ih in
             rw (ne-eqb high marker t, lt-ltb high (suc i) (omega (arith, q)))
-            (finish-hit c k lc lk i b (after i) long carries (rw back (omega (arith, up, q)))
+            (finish-hit c k lk i b (after i) long carries (rw back (omega (arith, up, q)))
             ∙ ap (λ z. finished z (coordinate points k (cell vert (PREV i)))) now
             ∙ ap (λ j. finished (started (coordinate points k (cell vert low)) (coordinate points k (far vert low)) (coordinate points k (cell vert (PREV low)))) (coordinate points k (cell vert (PREV j)))) q
             ∙ inner-is low k t)
 
         -- another's
         other : (cell edge i ≡ c → ⊥) → value (after i) (6 * n + 3 * c + k) ≡ grown i → Dec (high ≡ marker) → value (after (suc i)) (6 * n + 3 * c + k) ≡ grown (suc i)
-        other d ih (yes t) = rw (eq-eqb high marker t) (other-edge c k lc lk i b (after i) long d ∙ (rw (eq-eqb high marker t) at ih))
+        other d ih (yes t) = rw (eq-eqb high marker t) (other-edge c k lk i b (after i) long d ∙ (rw (eq-eqb high marker t) at ih))
         other d ih (no t) =
             let apart : high ≢ i = λ q. d (sym (ap (cell edge) q) ∙ carried .twin-same low (in-twin low-below) t ∙ low-carries) in
-            other-edge c k lc lk i b (after i) long d ∙ ih ∙ rw (later (decLt high i) apart)
+            other-edge c k lk i b (after i) long d ∙ ih ∙ rw (later (decLt high i) apart)
           where
             later : Dec (high < i) → high ≢ i → ltb high i ≡ ltb high (suc i)
             later (yes l) _ = lt-ltb high i l ∙ sym (lt-ltb high (suc i) (omega arith))

@@ -1,18 +1,11 @@
 // The last pass over a level: every edge's point, by a part from each of its two halfedges, and the border's vertices.
 ghost use mathlib.Core.Path.{_≡_};
-ghost use mathlib.Core.Bool.{false};
-ghost use Prim.Native.Nat.{ℕ, _+_, _*_, _<_, _≤_};
-ghost use lib.IntN.{natAbs};
+ghost use Prim.Native.Nat.{ℕ, _+_, _*_, _<_};
 ghost use lib.ListN.{length};
 ghost use Rattle.laws.specs.Internal.Steps.{steps};
 ghost use Rattle.halfedges.specs.Cage.{cell};
-ghost use Rattle.halfedges.specs.Corners.{corners};
-ghost use Rattle.points.specs.PointRules.{E1};
-ghost use Rattle.points.specs.Operations.{most-coordinate};
-ghost use Rattle.points.specs.Internal.Cells.{value, put, Near};
-ghost use Rattle.points.specs.Internal.Parts.{started, finished, met};
-ghost use Rattle.edgepoints.specs.Internal.Edges.{borderEdge, innerEdge, AsksInner, stepEdge, Asks, triangleOf, stepTriangle, AsksTriangle, borderAmong, Edged, Started, putEdge, putTriangle, StartedTriangle};
-use halfedges::corners::corners_of;
+ghost use Rattle.points.specs.Internal.Cells.{put};
+ghost use Rattle.edgepoints.specs.Internal.Edges.{Spanned, AsksFinish, AsksMeet, middle, start, finish, meeting, borderEdge, AsksInner, innerEdge, Asks, stepEdge, cornerOf, between, triangleOf, Readable, borderAmong, inTurn, AskedInTurn, Edged, Started, putEdge};
 use halfedges::table::HalfedgeTable;
 use points::cells::point_of;
 use points::cells::put_point;
@@ -21,133 +14,180 @@ use points::rules::border_vertex;
 use points::rules::finished_edge;
 use points::rules::started_edge;
 
-// The part of the lower halfedge in the point of an inner edge with ends a, b and opposite corner c.
-fn start_edge(points: &mut [i32], to: usize, a: [i32; 3], b: [i32; 3], c: [i32; 3])
-    requires { ⌜ (to + 2 < length (now points)) × (Near a) × (Near b) × (Near c) ⌝ }
-    ensures { λ _. ⌜ now (points .exit) ≡ put to (λ k. started (value a k) (value b k) (value c k)) (now (points .entry)) ⌝ }
-{
-    let x = started_edge(a[0], b[0], c[0]);
-    let y = started_edge(a[1], b[1], c[1]);
-    let z = started_edge(a[2], b[2], c[2]);
-    put_point(&mut *points, to, x, y, z);
+// A corner of a triangle: its vertex, and where that is.
+struct Corner {
+    vertex: u32,
+    point: [i32; 3],
 }
 
-// The part of the higher halfedge in the point of an inner edge, with opposite corner d.
-fn finish_edge(points: &mut [i32], to: usize, d: [i32; 3])
-    requires { ⌜ (to + 2 < length (now points)) × (Near d)
-        × ((k : ℕ) → k < 3 → natAbs (value (now points) (to + k)) ≤ most-coordinate * 7) ⌝ }
-    ensures { λ _.
-        ⌜ now (points .exit) ≡ put to (λ k. finished (value (now (points .entry)) (to + k)) (value d k)) (now (points .entry)) ⌝ }
-{
-    let x = finished_edge(points[to], d[0]);
-    let y = finished_edge(points[to + 1], d[1]);
-    let z = finished_edge(points[to + 2], d[2]);
-    put_point(&mut *points, to, x, y, z);
-}
-
-// The middle of a border edge with ends a, b.
-fn put_middle(points: &mut [i32], to: usize, a: [i32; 3], b: [i32; 3])
-    requires { ⌜ (to + 2 < length (now points)) × (Near a) × (Near b) ⌝ }
-    ensures { λ _. ⌜ now (points .exit) ≡ put to (λ k. E1 (value a k) (value b k)) (now (points .entry)) ⌝ }
-{
-    let x = border_edge(a[0], b[0]);
-    let y = border_edge(a[1], b[1]);
-    let z = border_edge(a[2], b[2]);
-    put_point(&mut *points, to, x, y, z);
-}
-
-// A border vertex at v, whose new place is at a cell, meets its neighbour at a.
-fn meet_one(points: &mut [i32], to: usize, v: [i32; 3], a: [i32; 3])
-    requires { ⌜ (to + 2 < length (now points)) × (Near v) × (Near a) ⌝ }
-    ensures { λ _.
-        ⌜ now (points .exit) ≡ put to (λ k. met (value (now (points .entry)) (to + k)) (value v k) (value a k))
-        (now (points .entry)) ⌝ }
-{
-    let x = border_vertex(points[to], v[0], a[0]);
-    let y = border_vertex(points[to + 1], v[1], a[1]);
-    let z = border_vertex(points[to + 2], v[2], a[2]);
-    put_point(&mut *points, to, x, y, z);
-}
-
-// The part of a halfedge without twin, from vertex a to vertex b, at p and q.
-fn put_border(
-    points: &mut [i32],
-    vertices: usize,
+// What the pass takes of one halfedge: its number, its cells of TWIN and EDGE, its two ends and the corner opposite to it.
+struct Halfedge {
     number: usize,
-    a: usize,
-    b: usize,
-    p: [i32; 3],
-    q: [i32; 3],
-)
-    requires { ⌜ (a < vertices) × (b < vertices) × (6 * vertices + 3 * number + 2 < length (now points)) × (Near p) × (Near q) ⌝ }
-    ensures { λ _. ⌜ now (points .exit) ≡ borderEdge vertices number a b p q (now (points .entry)) ⌝ }
-{
-    put_middle(&mut *points, 6 * vertices + 3 * number, p, q);
-    meet_one(&mut *points, 3 * vertices + 3 * a, p, q);
-    meet_one(&mut *points, 3 * vertices + 3 * b, q, p);
-}
-
-// The part of a halfedge that has a twin, with its ends at p and q and its opposite corner at r.
-fn step_inner(
-    points: &mut [i32],
-    vertices: usize,
-    halfedge: usize,
     twin: u32,
-    number: u32,
-    p: [i32; 3],
-    q: [i32; 3],
-    r: [i32; 3],
-)
-    requires { ⌜ AsksInner vertices halfedge twin number p q r (now points) ⌝ }
-    ensures { λ _. ⌜ now (points .exit) ≡ innerEdge vertices halfedge twin number p q r (now (points .entry)) ⌝ }
-{
-    let to = 6 * vertices + 3 * number as usize;
-    if (twin as usize) < halfedge {
-        finish_edge(&mut *points, to, r);
-        return;
-    }
-    start_edge(&mut *points, to, p, q, r);
+    edge: u32,
+    from: Corner,
+    to: Corner,
+    opposite: Corner,
 }
 
-// The part of any halfedge, from vertex a to vertex b, with its ends at p and q and its opposite corner at r.
-fn step_edge(
-    points: &mut [i32],
-    vertices: usize,
-    halfedge: usize,
-    twin: u32,
-    number: u32,
-    a: u32,
-    b: u32,
-    p: [i32; 3],
-    q: [i32; 3],
-    r: [i32; 3],
-)
-    requires { ⌜ Asks vertices halfedge twin number a b p q r (now points) ⌝ }
-    ensures { λ _. ⌜ now (points .exit) ≡ stepEdge vertices halfedge twin number a b p q r (now (points .entry)) ⌝ }
-{
-    if twin == HalfedgeTable::NO_TWIN {
-        put_border(
-            &mut *points,
-            vertices,
-            number as usize,
-            a as usize,
-            b as usize,
-            p,
-            q,
-        );
-        return;
-    }
-    step_inner(&mut *points, vertices, halfedge, twin, number, p, q, r);
-}
-
-// What a triangle has of the tables, and its corners' points.
+// The three halfedges of a triangle.
 struct Triangle {
-    twins: [u32; 3],
-    edges: [u32; 3],
-    corners: [u32; 3],
-    first: [i32; 3],
-    second: [i32; 3],
-    third: [i32; 3],
+    first: Halfedge,
+    second: Halfedge,
+    third: Halfedge,
+}
+
+// Coordinate k of the part of the lower halfedge in the point of an inner edge.
+fn started_at(halfedge: Halfedge, k: usize) -> i32
+    requires { ⌜ (Spanned halfedge) × (k < 3) ⌝ }
+    ensures { λ r. ⌜ r ≡ start halfedge k ⌝ }
+{
+    let a = halfedge.from.point;
+    let b = halfedge.to.point;
+    let c = halfedge.opposite.point;
+    started_edge(a[k], b[k], c[k])
+}
+
+fn start_edge(points: &mut [i32], to: usize, halfedge: Halfedge)
+    requires { ⌜ (Spanned halfedge) × (to + 2 < length (now points)) ⌝ }
+    ensures { λ _. ⌜ now (points .exit) ≡ put to (start halfedge) (now (points .entry)) ⌝ }
+{
+    let x = started_at(halfedge, 0);
+    let y = started_at(halfedge, 1);
+    let z = started_at(halfedge, 2);
+    put_point(&mut *points, to, x, y, z);
+}
+
+// Coordinate k of the point of an inner edge, which the part of the higher halfedge makes of what the lower one left.
+fn finished_at(points: &[i32], to: usize, halfedge: Halfedge, k: usize) -> i32
+    requires { ⌜ (AsksFinish halfedge to (now points)) × (k < 3) ⌝ }
+    ensures { λ r. ⌜ r ≡ finish halfedge (now (points .entry)) to k ⌝ }
+{
+    let d = halfedge.opposite.point;
+    finished_edge(points[to + k], d[k])
+}
+
+fn finish_edge(points: &mut [i32], to: usize, halfedge: Halfedge)
+    requires { ⌜ AsksFinish halfedge to (now points) ⌝ }
+    ensures { λ _. ⌜ now (points .exit) ≡ put to (finish halfedge (now (points .entry)) to) (now (points .entry)) ⌝ }
+{
+    let x = finished_at(&*points, to, halfedge, 0);
+    let y = finished_at(&*points, to, halfedge, 1);
+    let z = finished_at(&*points, to, halfedge, 2);
+    put_point(&mut *points, to, x, y, z);
+}
+
+// Coordinate k of the middle of a border edge.
+fn middle_at(halfedge: Halfedge, k: usize) -> i32
+    requires { ⌜ (Spanned halfedge) × (k < 3) ⌝ }
+    ensures { λ r. ⌜ r ≡ middle halfedge k ⌝ }
+{
+    let a = halfedge.from.point;
+    let b = halfedge.to.point;
+    border_edge(a[k], b[k])
+}
+
+fn put_middle(points: &mut [i32], to: usize, halfedge: Halfedge)
+    requires { ⌜ (Spanned halfedge) × (to + 2 < length (now points)) ⌝ }
+    ensures { λ _. ⌜ now (points .exit) ≡ put to (middle halfedge) (now (points .entry)) ⌝ }
+{
+    let x = middle_at(halfedge, 0);
+    let y = middle_at(halfedge, 1);
+    let z = middle_at(halfedge, 2);
+    put_point(&mut *points, to, x, y, z);
+}
+
+// Coordinate k of the new place of a border's vertex, once it has met its neighbour.
+fn met_at(points: &[i32], to: usize, corner: Corner, neighbour: Corner, k: usize) -> i32
+    requires { ⌜ (AsksMeet corner neighbour to (now points)) × (k < 3) ⌝ }
+    ensures { λ r. ⌜ r ≡ meeting corner neighbour (now (points .entry)) to k ⌝ }
+{
+    let v = corner.point;
+    let a = neighbour.point;
+    border_vertex(points[to + k], v[k], a[k])
+}
+
+fn meet_one(points: &mut [i32], to: usize, corner: Corner, neighbour: Corner)
+    requires { ⌜ AsksMeet corner neighbour to (now points) ⌝ }
+    ensures { λ _. ⌜ now (points .exit) ≡ put to (meeting corner neighbour (now (points .entry)) to) (now (points .entry)) ⌝ }
+{
+    let x = met_at(&*points, to, corner, neighbour, 0);
+    let y = met_at(&*points, to, corner, neighbour, 1);
+    let z = met_at(&*points, to, corner, neighbour, 2);
+    put_point(&mut *points, to, x, y, z);
+}
+
+// The part of a halfedge without twin.
+fn put_border(points: &mut [i32], vertices: usize, halfedge: Halfedge)
+    requires { ⌜ Asks vertices halfedge (now points) ⌝ }
+    ensures { λ _. ⌜ now (points .exit) ≡ borderEdge vertices halfedge (now (points .entry)) ⌝ }
+{
+    let a = halfedge.from;
+    let b = halfedge.to;
+    put_middle(
+        &mut *points,
+        6 * vertices + 3 * halfedge.edge as usize,
+        halfedge,
+    );
+    meet_one(&mut *points, 3 * vertices + 3 * a.vertex as usize, a, b);
+    meet_one(&mut *points, 3 * vertices + 3 * b.vertex as usize, b, a);
+}
+
+// The part of a halfedge that has a twin.
+fn step_inner(points: &mut [i32], vertices: usize, halfedge: Halfedge)
+    requires { ⌜ AsksInner vertices halfedge (now points) ⌝ }
+    ensures { λ _. ⌜ now (points .exit) ≡ innerEdge vertices halfedge (now (points .entry)) ⌝ }
+{
+    let to = 6 * vertices + 3 * halfedge.edge as usize;
+    if (halfedge.twin as usize) < halfedge.number {
+        finish_edge(&mut *points, to, halfedge);
+        return;
+    }
+    start_edge(&mut *points, to, halfedge);
+}
+
+// The part of any halfedge.
+fn step_edge(points: &mut [i32], vertices: usize, halfedge: Halfedge)
+    requires { ⌜ Asks vertices halfedge (now points) ⌝ }
+    ensures { λ _. ⌜ now (points .exit) ≡ stepEdge vertices halfedge (now (points .entry)) ⌝ }
+{
+    if halfedge.twin == HalfedgeTable::NO_TWIN {
+        put_border(&mut *points, vertices, halfedge);
+        return;
+    }
+    step_inner(&mut *points, vertices, halfedge);
+}
+
+// The corner that a halfedge leaves.
+fn read_corner(vert: &[u32], points: &[i32], halfedge: usize) -> Corner
+    requires { ⌜ (halfedge < length (now vert)) × (3 * cell (now vert) halfedge + 2 < length (now points)) ⌝ }
+    ensures { λ r. ⌜ r ≡ cornerOf (now (vert .entry)) (now (points .entry)) halfedge ⌝ }
+{
+    let vertex = vert[halfedge];
+    let point = point_of(points, vertex as usize);
+    Corner { vertex, point }
+}
+
+// A halfedge, with its triangle's corners from its own on.
+fn read_halfedge(
+    twin: &[u32],
+    edge: &[u32],
+    number: usize,
+    from: Corner,
+    to: Corner,
+    opposite: Corner,
+) -> Halfedge
+    requires { ⌜ (number < length (now twin)) × (number < length (now edge)) ⌝ }
+    ensures { λ r. ⌜ r ≡ between (now (twin .entry)) (now (edge .entry)) number from to opposite ⌝ }
+{
+    Halfedge {
+        number,
+        twin: twin[number],
+        edge: edge[number],
+        from,
+        to,
+        opposite,
+    }
 }
 
 fn read_triangle(
@@ -157,21 +197,19 @@ fn read_triangle(
     points: &[i32],
     triangle: usize,
 ) -> Triangle
-    requires { ⌜ (3 * triangle + 2 < length (now twin)) × (3 * triangle + 2 < length (now vert))
-        × (3 * triangle + 2 < length (now edge)) ⌝ }
-    requires { ⌜ ((i : ℕ) → i < 3 → 3 * cell (corners (now vert) triangle) i + 2 < length (now points)) ⌝ }
+    requires { ⌜ Readable (now twin) (now vert) (now edge) (now points) triangle ⌝ }
     ensures { λ r. ⌜ r ≡ triangleOf (now (twin .entry)) (now (vert .entry)) (now (edge .entry)) (now (points .entry)) triangle ⌝ }
 {
-    let corners = corners_of(vert, triangle);
-    let twins = corners_of(twin, triangle);
-    let edges = corners_of(edge, triangle);
-    let first = point_of(points, corners[0] as usize);
-    let second = point_of(points, corners[1] as usize);
-    let third = point_of(points, corners[2] as usize);
+    let one = 3 * triangle;
+    let two = one + 1;
+    let three = one + 2;
+    let a = read_corner(vert, points, one);
+    let b = read_corner(vert, points, two);
+    let c = read_corner(vert, points, three);
+    let first = read_halfedge(twin, edge, one, a, b, c);
+    let second = read_halfedge(twin, edge, two, b, c, a);
+    let third = read_halfedge(twin, edge, three, c, a, b);
     Triangle {
-        twins,
-        edges,
-        corners,
         first,
         second,
         third,
@@ -179,98 +217,36 @@ fn read_triangle(
 }
 
 // A triangle's part in the points of its edges, of which some may be borders.
-fn write_any(points: &mut [i32], vertices: usize, first: usize, triangle: Triangle)
-    requires { ⌜ AsksTriangle vertices first triangle (now points) ⌝ }
-    ensures { λ _. ⌜ now (points .exit) ≡ stepTriangle vertices first triangle (now (points .entry)) ⌝ }
+fn write_any(points: &mut [i32], vertices: usize, triangle: Triangle)
+    requires { ⌜ AskedInTurn (Asks vertices) (stepEdge vertices) triangle (now points) ⌝ }
+    ensures { λ _. ⌜ now (points .exit) ≡ inTurn (stepEdge vertices) triangle (now (points .entry)) ⌝ }
 {
-    let twins = triangle.twins;
-    let edges = triangle.edges;
-    let corners = triangle.corners;
-    let p = triangle.first;
-    let q = triangle.second;
-    let r = triangle.third;
-    step_edge(
-        &mut *points,
-        vertices,
-        first,
-        twins[0],
-        edges[0],
-        corners[0],
-        corners[1],
-        p,
-        q,
-        r,
-    );
-    step_edge(
-        &mut *points,
-        vertices,
-        first + 1,
-        twins[1],
-        edges[1],
-        corners[1],
-        corners[2],
-        q,
-        r,
-        p,
-    );
-    step_edge(
-        &mut *points,
-        vertices,
-        first + 2,
-        twins[2],
-        edges[2],
-        corners[2],
-        corners[0],
-        r,
-        p,
-        q,
-    );
+    step_edge(&mut *points, vertices, triangle.first);
+    step_edge(&mut *points, vertices, triangle.second);
+    step_edge(&mut *points, vertices, triangle.third);
 }
 
 // A triangle's part in the points of its edges, where none of them is a border.
-fn write_inner(points: &mut [i32], vertices: usize, first: usize, triangle: Triangle)
-    requires { ⌜ (AsksTriangle vertices first triangle (now points)) × (borderAmong (triangle .twins) ≡ false) ⌝ }
-    ensures { λ _. ⌜ now (points .exit) ≡ stepTriangle vertices first triangle (now (points .entry)) ⌝ }
+fn write_inner(points: &mut [i32], vertices: usize, triangle: Triangle)
+    requires { ⌜ AskedInTurn (AsksInner vertices) (innerEdge vertices) triangle (now points) ⌝ }
+    ensures { λ _. ⌜ now (points .exit) ≡ inTurn (innerEdge vertices) triangle (now (points .entry)) ⌝ }
 {
-    let twins = triangle.twins;
-    let edges = triangle.edges;
-    let p = triangle.first;
-    let q = triangle.second;
-    let r = triangle.third;
-    step_inner(&mut *points, vertices, first, twins[0], edges[0], p, q, r);
-    step_inner(
-        &mut *points,
-        vertices,
-        first + 1,
-        twins[1],
-        edges[1],
-        q,
-        r,
-        p,
-    );
-    step_inner(
-        &mut *points,
-        vertices,
-        first + 2,
-        twins[2],
-        edges[2],
-        r,
-        p,
-        q,
-    );
+    step_inner(&mut *points, vertices, triangle.first);
+    step_inner(&mut *points, vertices, triangle.second);
+    step_inner(&mut *points, vertices, triangle.third);
 }
 
-// Whether one of three halfedges has no twin.
-fn border_among(twins: [u32; 3]) -> bool
-    ensures { λ r. ⌜ r ≡ borderAmong twins ⌝ }
+// Whether one of a triangle's halfedges has no twin.
+fn border_among(triangle: Triangle) -> bool
+    ensures { λ r. ⌜ r ≡ borderAmong triangle ⌝ }
 {
-    if twins[0] == HalfedgeTable::NO_TWIN {
+    if triangle.first.twin == HalfedgeTable::NO_TWIN {
         return true;
     }
-    if twins[1] == HalfedgeTable::NO_TWIN {
+    if triangle.second.twin == HalfedgeTable::NO_TWIN {
         return true;
     }
-    twins[2] == HalfedgeTable::NO_TWIN
+    triangle.third.twin == HalfedgeTable::NO_TWIN
 }
 
 // A triangle's part in the points of its edges. Few triangles lie on a border: the rest go by shorter code, of which the compiler
@@ -283,19 +259,19 @@ fn write_triangle(
     vertices: usize,
     triangle: usize,
 )
-    requires { ⌜ (Edged (now twin) (now vert) (now edge) vertices (now points)) × (3 * triangle + 2 < length (now vert))
-        × (StartedTriangle (now twin) (now vert) (now edge) vertices (now points) triangle (now points)) ⌝ }
+    requires { ⌜ (Readable (now twin) (now vert) (now edge) (now points) triangle)
+        × (AskedInTurn (Asks vertices) (stepEdge vertices)
+        (triangleOf (now twin) (now vert) (now edge) (now points) triangle) (now points)) ⌝ }
     ensures { λ _.
-        ⌜ now (points .exit) ≡ putTriangle (now (twin .entry)) (now (vert .entry)) (now (edge .entry)) vertices
-        (now (points .entry)) triangle (now (points .entry)) ⌝ }
+        ⌜ now (points .exit) ≡ inTurn (stepEdge vertices)
+        (triangleOf (now (twin .entry)) (now (vert .entry)) (now (edge .entry)) (now (points .entry)) triangle) (now (points .entry)) ⌝ }
 {
     let read = read_triangle(twin, vert, edge, &*points, triangle);
-    let twins = read.twins;
-    if border_among(twins) {
-        write_any(&mut *points, vertices, 3 * triangle, read);
+    if border_among(read) {
+        write_any(&mut *points, vertices, read);
         return;
     }
-    write_inner(&mut *points, vertices, 3 * triangle, read);
+    write_inner(&mut *points, vertices, read);
 }
 
 // The points of all edges, and V.2 at the border: the part of every halfedge, triangle by triangle.

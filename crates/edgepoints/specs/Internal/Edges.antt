@@ -1,98 +1,140 @@
 -- The last pass over a level, by the stores that it makes at one step: the new place of vertex v is at 3n + 3v, and the point of edge e
 -- at 6n + 3e.
-use Prim.Native.Nat.{ℕ, _+_, _*_, _^_, _≤_, _<_}
+use Prim.Native.Nat.{ℕ, _+_, _*_, _≤_, _<_}
 use mathlib.Core.Path.{_≡_}
 use mathlib.Core.Bool.{Bool, cond, _||_}
 use mathlib.Core.List.{List}
 use lib.Dec.{eqb, ltb}
 use lib.IntN.{ℤ, natAbs}
 use lib.ListN.{length, take}
+use Rattle.edgepoints.specs.declared.edges.Corner.{Corner}
+use Rattle.edgepoints.specs.declared.edges.Halfedge.{Halfedge}
 use Rattle.edgepoints.specs.declared.edges.Triangle.{Triangle}
-use Rattle.halfedges.specs.Cage.{PREV, marker, cell}
-use Rattle.halfedges.specs.Corners.{corners}
+use Rattle.halfedges.specs.Cage.{NEXT, PREV, marker, cell}
 use Rattle.points.specs.PointRules.{E1}
-use Rattle.points.specs.NextPoints.{far}
-use Rattle.points.specs.Operations.{most-coordinate}
+use Rattle.points.specs.Operations.{most-coordinate, InRange}
 use Rattle.points.specs.Internal.Relied.{Cornered}
-use Rattle.points.specs.Operations.{InRange}
 use Rattle.points.specs.Internal.Cells.{value, put, pointOf, Near}
 use Rattle.points.specs.Internal.Parts.{started, finished, met}
 
-unfoldable pub meet : ℕ → ℕ → List ℤ → List ℤ → List ℤ → List ℤ
-meet n v p q l = put (3 * n + 3 * v) (λ k. met (value l (3 * n + 3 * v + k)) (value p k) (value q k)) l
+-- the three corners that halfedge h knows are in range
+pub record Spanned (h : Halfedge) : Type 0 where
+  pub from-near : Near (h .from .point)
+  pub to-near : Near (h .to .point)
+  pub opposite-near : Near (h .opposite .point)
 
--- a border edge e from vertex a to b, at p and q: E.1, and each end meets the other
-unfoldable pub borderEdge : ℕ → ℕ → ℕ → ℕ → List ℤ → List ℤ → List ℤ → List ℤ
-borderEdge n e a b p q l = meet n b q p (meet n a p q (put (6 * n + 3 * e) (λ k. E1 (value p k) (value q k)) l))
+-- coordinate k of the middle of a border edge (E.1)
+abbrev pub middle : Halfedge → ℕ → ℤ
+middle h k = E1 (value (h .from .point) k) (value (h .to .point) k)
 
--- an inner edge e, from its lower halfedge with ends at p, q and opposite corner r, and from its higher one with opposite corner r
-unfoldable pub startEdge : ℕ → ℕ → List ℤ → List ℤ → List ℤ → List ℤ → List ℤ
-startEdge n e p q r l = put (6 * n + 3 * e) (λ k. started (value p k) (value q k) (value r k)) l
+-- coordinate k of what the lower halfedge of an inner edge leaves, and of what the higher one makes of that, at cell i and on (E.2)
+abbrev pub start : Halfedge → ℕ → ℤ
+start h k = started (value (h .from .point) k) (value (h .to .point) k) (value (h .opposite .point) k)
 
-unfoldable pub finishEdge : ℕ → ℕ → List ℤ → List ℤ → List ℤ
-finishEdge n e r l = put (6 * n + 3 * e) (λ k. finished (value l (6 * n + 3 * e + k)) (value r k)) l
+abbrev pub finish : Halfedge → List ℤ → ℕ → ℕ → ℤ
+finish h l i k = finished (value l (i + k)) (value (h .opposite .point) k)
 
--- halfedge h with twin t, of edge e, at p and q with opposite corner r
-unfoldable pub innerEdge : ℕ → ℕ → ℕ → ℕ → List ℤ → List ℤ → List ℤ → List ℤ → List ℤ
-innerEdge n h t e p q r l = cond (ltb t h) (finishEdge n e r l) (startEdge n e p q r l)
+-- a lower halfedge has been at cell i
+abbrev pub Begun : List ℤ → ℕ → Type 0
+Begun l i = (k : ℕ) → k < 3 → natAbs (value l (i + k)) ≤ most-coordinate * 7
+
+-- what `finish` asks
+pub record AsksFinish (h : Halfedge) (i : ℕ) (l : List ℤ) : Type 0 where
+  pub spanned : Spanned h
+  pub room : i + 2 < length l
+  pub begun : Begun l i
+
+-- coordinate k of the place, at cell i and on, of a border's vertex at a that meets its neighbour at b (V.2)
+abbrev pub meeting : Corner → Corner → List ℤ → ℕ → ℕ → ℤ
+meeting a b l i k = met (value l (i + k)) (value (a .point) k) (value (b .point) k)
+
+-- what `meeting` asks
+pub record AsksMeet (a b : Corner) (i : ℕ) (l : List ℤ) : Type 0 where
+  pub room : i + 2 < length l
+  pub near : Near (a .point)
+  pub neighbour-near : Near (b .point)
+
+unfoldable pub meet : ℕ → Corner → Corner → List ℤ → List ℤ
+meet n a b l = put (3 * n + 3 * a .vertex) (meeting a b l (3 * n + 3 * a .vertex)) l
+
+-- the cells of a halfedge's edge
+abbrev pub place : ℕ → Halfedge → ℕ
+place n h = 6 * n + 3 * h .edge
+
+-- a halfedge without twin: E.1, and each end meets the other
+unfoldable pub borderEdge : ℕ → Halfedge → List ℤ → List ℤ
+borderEdge n h l = meet n (h .to) (h .from) (meet n (h .from) (h .to) (put (place n h) (middle h) l))
+
+-- a halfedge with a twin, the lower or the higher of the two
+abbrev pub inner : ℕ → Halfedge → List ℤ → ℕ → ℤ
+inner n h l = cond (ltb (h .twin) (h .number)) (finish h l (place n h)) (start h)
+
+unfoldable pub innerEdge : ℕ → Halfedge → List ℤ → List ℤ
+innerEdge n h l = put (place n h) (inner n h l) l
 
 -- what `innerEdge` asks: there is room, the points are in range, and where h is the higher halfedge of its edge, the lower one has
 -- been there
-pub record AsksInner (n h t e : ℕ) (p q r l : List ℤ) : Type 0 where
-  pub room : 6 * n + 3 * e + 2 < length l
-  pub from-near : Near p
-  pub end-near : Near q
-  pub opposite-near : Near r
-  pub started-there : t < h → (k : ℕ) → k < 3 → natAbs (value l (6 * n + 3 * e + k)) ≤ most-coordinate * 7
+pub record AsksInner (n : ℕ) (h : Halfedge) (l : List ℤ) : Type 0 where
+  pub spanned : Spanned h
+  pub room : place n h + 2 < length l
+  pub begun : h .twin < h .number → Begun l (place n h)
 
--- halfedge h of edge e, with or without a twin, from vertex a to b, at p and q with opposite corner r
-unfoldable pub stepEdge : ℕ → ℕ → ℕ → ℕ → ℕ → ℕ → List ℤ → List ℤ → List ℤ → List ℤ → List ℤ
-stepEdge n h t e a b p q r l = cond (eqb t marker) (borderEdge n e a b p q l) (innerEdge n h t e p q r l)
+-- a halfedge with or without a twin
+unfoldable pub stepEdge : ℕ → Halfedge → List ℤ → List ℤ
+stepEdge n h l = cond (eqb (h .twin) marker) (borderEdge n h l) (innerEdge n h l)
 
-pub record Asks (n h t e a b : ℕ) (p q r l : List ℤ) : Type 0 where
-  pub in-a : a < n
-  pub in-b : b < n
-  pub inner : AsksInner n h t e p q r l
+-- what `stepEdge` asks
+pub record Asks (n : ℕ) (h : Halfedge) (l : List ℤ) : Type 0 where
+  pub in-from : h .from .vertex < n
+  pub in-to : h .to .vertex < n
+  pub inner-asks : AsksInner n h l
 
--- what a triangle has of the tables, and its corners' points
+-- the corner that halfedge h leaves
+abbrev pub cornerOf : List ℕ → List ℤ → ℕ → Corner
+cornerOf vert points h = record { vertex = cell vert h; point = pointOf points (cell vert h) }
+
+-- halfedge h from corner a to b, opposite to c
+abbrev pub between : List ℕ → List ℕ → ℕ → Corner → Corner → Corner → Halfedge
+between twin edge h a b c = record { number = h; twin = cell twin h; edge = cell edge h; from = a; to = b; opposite = c }
+
+-- halfedge h of the tables
+abbrev pub halfedgeOf : List ℕ → List ℕ → List ℕ → List ℤ → ℕ → Halfedge
+halfedgeOf twin vert edge points h =
+    between twin edge h (cornerOf vert points h) (cornerOf vert points (NEXT h)) (cornerOf vert points (PREV h))
+
+-- the three halfedges of triangle t
 abbrev pub triangleOf : List ℕ → List ℕ → List ℕ → List ℤ → ℕ → Triangle
 triangleOf twin vert edge points t =
     record {
-      twins = corners twin t;
-      edges = corners edge t;
-      corners = corners vert t;
-      first = pointOf points (cell vert (3 * t));
-      second = pointOf points (cell vert (3 * t + 1));
-      third = pointOf points (cell vert (3 * t + 2));
+      first = halfedgeOf twin vert edge points (3 * t);
+      second = halfedgeOf twin vert edge points (3 * t + 1);
+      third = halfedgeOf twin vert edge points (3 * t + 2);
     }
 
--- the halfedges h, h + 1 and h + 2 of a triangle
-abbrev pub stepFirst : ℕ → ℕ → Triangle → List ℤ → List ℤ
-stepFirst n h x l = stepEdge n h (cell (x .twins) 0) (cell (x .edges) 0) (cell (x .corners) 0) (cell (x .corners) 1) (x .first) (x .second) (x .third) l
+-- the tables have triangle t, and its corners have points
+pub record Readable (twin vert edge : List ℕ) (points : List ℤ) (t : ℕ) : Type 0 where
+  pub in-twin : 3 * t + 2 < length twin
+  pub in-vert : 3 * t + 2 < length vert
+  pub in-edge : 3 * t + 2 < length edge
+  pub pointed : (h : ℕ) → h < length vert → 3 * cell vert h + 2 < length points
 
-abbrev pub stepSecond : ℕ → ℕ → Triangle → List ℤ → List ℤ
-stepSecond n h x l = stepEdge n (h + 1) (cell (x .twins) 1) (cell (x .edges) 1) (cell (x .corners) 1) (cell (x .corners) 2) (x .second) (x .third) (x .first) l
+-- one of a triangle's halfedges has no twin
+unfoldable pub borderAmong : Triangle → Bool
+borderAmong x = eqb (x .first .twin) marker || eqb (x .second .twin) marker || eqb (x .third .twin) marker
 
-abbrev pub stepThird : ℕ → ℕ → Triangle → List ℤ → List ℤ
-stepThird n h x l = stepEdge n (h + 2) (cell (x .twins) 2) (cell (x .edges) 2) (cell (x .corners) 2) (cell (x .corners) 0) (x .third) (x .first) (x .second) l
+-- a triangle's three halfedges, one after the other
+unfoldable pub inTurn : (Halfedge → List ℤ → List ℤ) → Triangle → List ℤ → List ℤ
+inTurn f x l = f (x .third) (f (x .second) (f (x .first) l))
 
-unfoldable pub stepTriangle : ℕ → ℕ → Triangle → List ℤ → List ℤ
-stepTriangle n h x l = stepThird n h x (stepSecond n h x (stepFirst n h x l))
-
-pub record AsksTriangle (n h : ℕ) (x : Triangle) (l : List ℤ) : Type 0 where
-  pub whole : h + 2 < 2 ^ 32
-  pub one : Asks n h (cell (x .twins) 0) (cell (x .edges) 0) (cell (x .corners) 0) (cell (x .corners) 1) (x .first) (x .second) (x .third) l
-  pub two : Asks n (h + 1) (cell (x .twins) 1) (cell (x .edges) 1) (cell (x .corners) 1) (cell (x .corners) 2) (x .second) (x .third) (x .first) (stepFirst n h x l)
-  pub three : Asks n (h + 2) (cell (x .twins) 2) (cell (x .edges) 2) (cell (x .corners) 2) (cell (x .corners) 0) (x .third) (x .first) (x .second) (stepSecond n h x (stepFirst n h x l))
-
--- one of three halfedges has no twin
-unfoldable pub borderAmong : List ℕ → Bool
-borderAmong twins = eqb (cell twins 0) marker || eqb (cell twins 1) marker || eqb (cell twins 2) marker
+-- each has what it asks, when it is its turn
+pub record AskedInTurn (asks : Halfedge → List ℤ → Type 0) (f : Halfedge → List ℤ → List ℤ) (x : Triangle) (l : List ℤ) : Type 0 where
+  pub one : asks (x .first) l
+  pub two : asks (x .second) (f (x .first) l)
+  pub three : asks (x .third) (f (x .second) (f (x .first) l))
 
 -- 4: halfedge h, with the points of a level
 unfoldable pub putEdge : List ℕ → List ℕ → List ℕ → ℕ → List ℤ → ℕ → List ℤ → List ℤ
-putEdge twin vert edge n points h l =
-    stepEdge n h (cell twin h) (cell edge h) (cell vert h) (far vert h) (pointOf points (cell vert h)) (pointOf points (far vert h)) (pointOf points (cell vert (PREV h))) l
+putEdge twin vert edge n points h l = stepEdge n (halfedgeOf twin vert edge points h) l
 
 -- the tables name halfedges, vertices in range, and edges that there is room for
 pub record Edged (twin vert edge : List ℕ) (n : ℕ) (l : List ℤ) : Type 0 where
@@ -105,14 +147,4 @@ pub record Edged (twin vert edge : List ℕ) (n : ℕ) (l : List ℤ) : Type 0 w
 
 -- where h is the higher halfedge of its edge, the lower one has been there
 abbrev pub Started : List ℕ → List ℕ → ℕ → ℕ → List ℤ → Type 0
-Started twin edge n h l = cell twin h < h → (k : ℕ) → k < 3 → natAbs (value l (6 * n + 3 * cell edge h + k)) ≤ most-coordinate * 7
-
--- 4 of a triangle's three halfedges
-unfoldable pub putTriangle : List ℕ → List ℕ → List ℕ → ℕ → List ℤ → ℕ → List ℤ → List ℤ
-putTriangle twin vert edge n points t l =
-    putEdge twin vert edge n points (3 * t + 2) (putEdge twin vert edge n points (3 * t + 1) (putEdge twin vert edge n points (3 * t) l))
-
-pub record StartedTriangle (twin vert edge : List ℕ) (n : ℕ) (points : List ℤ) (t : ℕ) (l : List ℤ) : Type 0 where
-  pub first : Started twin edge n (3 * t) l
-  pub second : Started twin edge n (3 * t + 1) (putEdge twin vert edge n points (3 * t) l)
-  pub third : Started twin edge n (3 * t + 2) (putEdge twin vert edge n points (3 * t + 1) (putEdge twin vert edge n points (3 * t) l))
+Started twin edge n h l = cell twin h < h → Begun l (6 * n + 3 * cell edge h)

@@ -1,21 +1,24 @@
 -- `put_border` makes its definition's three puts, each on what the one before left.
-use Prim.Native.Nat.{ℕ, _+_, _*_}
+use borrow.Author.Needs.{needs}
+use Prim.Native.Nat.{ℕ}
 use mathlib.Core.Path.{_≡_, ap, _∙_}
 use mathlib.Core.List.{List}
 use lib.IntN.{ℤ}
-use borrow.Author.Needs.{needs}
-use Rattle.points.specs.PointRules.{E1}
-use Rattle.points.specs.Internal.Cells.{value, put}
-use Rattle.edgepoints.specs.Internal.Edges.{meet, borderEdge}
+use Rattle.edgepoints.specs.declared.edges.Halfedge.{Halfedge}
+use Rattle.points.specs.Internal.Cells.{put}
+use Rattle.edgepoints.specs.Internal.Edges.{middle, meet, place, borderEdge}
 use Rattle.edgepoints.proofs.edges.put_border.Statement.{statement}
 use Rattle.edgepoints.proofs.edges.put_border.Tie as tie
 
-three-puts : (n e a b : ℕ) (p q l : List ℤ) {one two three : List ℤ} → one ≡ put (6 * n + 3 * e) (λ k. E1 (value p k) (value q k)) l → two ≡ meet n a p q one → three ≡ meet n b q p two → three ≡ borderEdge n e a b p q l
+three-puts : (n : ℕ) (h : Halfedge) (l : List ℤ) {one two three : List ℤ} → one ≡ put (place n h) (middle h) l → two ≡ meet n (h .from) (h .to) one → three ≡ meet n (h .to) (h .from) two → three ≡ borderEdge n h l
 unfolding borderEdge
-three-puts n e a b p q l x y z = z ∙ ap (meet n b q p) (y ∙ ap (meet n a p q) x)
+three-puts n h l x y z = z ∙ ap (meet n (h .to) (h .from)) (y ∙ ap (meet n (h .from) (h .to)) x)
 
 mul-put-middle : tie.Need-mul-put-middle
 mul-put-middle c = search needs
+
+cast-put-middle : tie.Need-cast-put-middle
+cast-put-middle c = search needs
 
 mul-put-middle-2 : tie.Need-mul-put-middle-2
 mul-put-middle-2 c = search needs
@@ -29,6 +32,9 @@ put-middle-requires c κs = search needs
 mul-meet-one : tie.Need-mul-meet-one
 mul-meet-one c = search needs
 
+cast-meet-one : tie.Need-cast-meet-one
+cast-meet-one c = search needs
+
 mul-meet-one-2 : tie.Need-mul-meet-one-2
 mul-meet-one-2 c = search needs
 
@@ -36,10 +42,15 @@ add-meet-one : tie.Need-add-meet-one
 add-meet-one c = search needs
 
 meet-one-requires : tie.Need-meet-one-requires
-meet-one-requires c κs = let s = c .before .before .before .before in (search needs, s .pre .3, s .pre .4)
+meet-one-requires c κs =
+    let near = c .before .before .before .before .before .before .before .before .pre .inner-asks .spanned in
+    record { room = search needs; near = near .from-near; neighbour-near = near .to-near }
 
 mul-meet-one-3 : tie.Need-mul-meet-one-3
 mul-meet-one-3 c = search needs
+
+cast-meet-one-2 : tie.Need-cast-meet-one-2
+cast-meet-one-2 c = search needs
 
 mul-meet-one-4 : tie.Need-mul-meet-one-4
 mul-meet-one-4 c = search needs
@@ -48,7 +59,9 @@ add-meet-one-2 : tie.Need-add-meet-one-2
 add-meet-one-2 c = search needs
 
 meet-one-requires-2 : tie.Need-meet-one-requires-2
-meet-one-requires-2 c κs = let s = c .before .before .before .before .before .before .before in (search needs, s .pre .4, s .pre .3)
+meet-one-requires-2 c κs =
+    let near = c .before .before .before .before .before .before .before .before .before .before .before .before .pre .inner-asks .spanned in
+    record { room = search needs; near = near .to-near; neighbour-near = near .from-near }
 
 same-length : tie.Need-same-length
 same-length c = search needs
@@ -56,23 +69,27 @@ same-length c = search needs
 returns : tie.Need-returns
 unfolding meet
 returns c =
-    let two = c .before .before .before .before in
-    let one = two .before .before .before in
-    three-puts (one .before .before .args .vertices) _ _ _ _ _ _ (one .put-middle .ensures) (two .meet-one .ensures) (c .before .meet-one2 .ensures)
+    let two = c .before .before .before .before .before in
+    let one = two .before .before .before .before in
+    let s = one .before .before .before .before .before in
+    three-puts (s .args .vertices) (s .args .halfedge) (s .args .points .now) (one .put-middle .ensures) (two .meet-one .ensures) (c .before .meet-one2 .ensures)
 
 pub put-border-spec : {M : Type 1} → statement M
 put-border-spec =
     tie.close
     (tie.spec
     mul-put-middle
+    cast-put-middle
     mul-put-middle-2
     add-put-middle
     put-middle-requires
     mul-meet-one
+    cast-meet-one
     mul-meet-one-2
     add-meet-one
     meet-one-requires
     mul-meet-one-3
+    cast-meet-one-2
     mul-meet-one-4
     add-meet-one-2
     meet-one-requires-2

@@ -1,90 +1,79 @@
--- `read_triangle` reads a triangle's cells of the three tables, and the points of its corners.
-use borrow.Author.Needs.{needs}
-use Prim.Native.Nat.{ℕ, _+_, _*_, _<_}
-use mathlib.Core.Path.{_≡_, sym, ap, _∙_, subst}
+-- `read_triangle` reads the three corners, and each halfedge from its own on.
+use Prim.Native.Nat.{ℕ, _+_, _*_, _≤_, _<_}
 use native.Mathlib.Omega.{arith}
 use lib.ListN.{length}
+use borrow.Author.Needs.{needs}
 use Rattle.halfedges.specs.Cage.{cell}
-use Rattle.halfedges.specs.Corners.{corners}
-use Rattle.points.specs.Internal.Cells.{pointOf}
+use Rattle.halfedges.proofs.Triangle.{next-0, next-1, next-2, prev-0, prev-1, prev-2}
+use Rattle.edgepoints.proofs.Writes.{halfedge-is}
 use Rattle.edgepoints.proofs.edges.read_triangle.Statement.{statement}
 use Rattle.edgepoints.proofs.edges.read_triangle.Tie as tie
 
-module _ (k : tie.After-corners-of3) where
-  abbrev s : tie.Start
-  s = k .before .before .before .before .before .before
+module _ (s : tie.Start) (h : ℕ) (le : h ≤ 3 * s .args .triangle + 2) where
+  corner-asked : (h < length (s .args .vert .now)) × (3 * cell (s .args .vert .now) h + 2 < length (s .args .points .now))
+  corner-asked = let l : h < length (s .args .vert .now) = omega (arith, s .pre .in-vert) in (l, s .pre .pointed h l)
 
-  corner : (i : ℕ) → cell (k .before .before .corners-of .result) i ≡ cell (corners (s .args .vert .now) (s .args .triangle)) i
-  corner i = ap (λ r. cell r i) (k .before .before .corners-of .ensures)
+  cells-asked : (h < length (s .args .twin .now)) × (h < length (s .args .edge .now))
+  cells-asked = (omega (arith, s .pre .in-twin), omega (arith, s .pre .in-edge))
 
-  readable : (i : ℕ) → i < 3 → 3 * cell (k .before .before .corners-of .result) i + 2 < length (s .args .points .now)
-  readable i l = subst (λ v. 3 * v + 2 < length (s .args .points .now)) (sym (corner i)) (s .pre .1 i l)
+mul-one : tie.Need-mul-one
+mul-one c = search needs
 
-corners-of-requires : tie.Need-corners-of-requires
-corners-of-requires c κs = search needs
+add-two : tie.Need-add-two
+add-two c = search needs
 
-corners-of-requires-2 : tie.Need-corners-of-requires-2
-corners-of-requires-2 c κs = search needs
+add-three : tie.Need-add-three
+add-three c = search needs
 
-corners-of-requires-3 : tie.Need-corners-of-requires-3
-corners-of-requires-3 c κs = search needs
+read-corner-requires : tie.Need-read-corner-requires
+read-corner-requires c κs = let s = c .before .before .before in corner-asked s (3 * s .args .triangle) (omega arith)
 
-array-read-point-of : tie.Need-array-read-point-of
-array-read-point-of c = search needs
+read-corner-requires-2 : tie.Need-read-corner-requires-2
+read-corner-requires-2 c κs = let s = c .before .before .before .before in corner-asked s (3 * s .args .triangle + 1) (omega arith)
 
-cast-point-of : tie.Need-cast-point-of
-cast-point-of c = search needs
+read-corner-requires-3 : tie.Need-read-corner-requires-3
+read-corner-requires-3 c κs = let s = c .before .before .before .before .before in corner-asked s (3 * s .args .triangle + 2) (omega arith)
 
-point-of-requires : tie.Need-point-of-requires
-point-of-requires c κs = readable c 0 (omega arith)
+read-halfedge-requires : tie.Need-read-halfedge-requires
+read-halfedge-requires c κs = let s = c .before .before .before .before .before .before in cells-asked s (3 * s .args .triangle) (omega arith)
 
-array-read-point-of-2 : tie.Need-array-read-point-of-2
-array-read-point-of-2 c = search needs
+read-halfedge-requires-2 : tie.Need-read-halfedge-requires-2
+read-halfedge-requires-2 c κs = let s = c .before .before .before .before .before .before .before in cells-asked s (3 * s .args .triangle + 1) (omega arith)
 
-cast-point-of-2 : tie.Need-cast-point-of-2
-cast-point-of-2 c = search needs
-
-point-of-requires-2 : tie.Need-point-of-requires-2
-point-of-requires-2 c κs = readable (c .before) 1 (omega arith)
-
-array-read-point-of-3 : tie.Need-array-read-point-of-3
-array-read-point-of-3 c = search needs
-
-cast-point-of-3 : tie.Need-cast-point-of-3
-cast-point-of-3 c = search needs
-
-point-of-requires-3 : tie.Need-point-of-requires-3
-point-of-requires-3 c κs = readable (c .before .before) 2 (omega arith)
+read-halfedge-requires-3 : tie.Need-read-halfedge-requires-3
+read-halfedge-requires-3 c κs = let s = c .before .before .before .before .before .before .before .before in cells-asked s (3 * s .args .triangle + 2) (omega arith)
 
 returns : tie.Need-returns
 returns c =
-    let b = c .before in
-    let a = b .before in
-    let k = a .before in
-    let at = pointOf (s k .args .points .now) in
+    let third = c .before .before .before in
+    let second = third .before in
+    let first = second .before in
+    let s = first .before .before .before .before in
+    let t = s .args .triangle in
+    let twin = s .args .twin .now in
+    let vert = s .args .vert .now in
+    let edge = s .args .edge .now in
+    let l = s .args .points .now in
+    let a = first .read-corner .ensures in
+    let b = second .read-corner2 .ensures in
+    let d = third .read-corner3 .ensures in
     λ i. record {
-      twins = k .before .corners-of2 .ensures i;
-      edges = k .corners-of3 .ensures i;
-      corners = k .before .before .corners-of .ensures i;
-      first = (a .point-of .ensures ∙ ap at (corner k 0)) i;
-      second = (b .point-of2 .ensures ∙ ap at (corner k 1)) i;
-      third = (c .point-of3 .ensures ∙ ap at (corner k 2)) i;
+      first = halfedge-is twin vert edge l (3 * t) (next-0 t) (prev-0 t) a b d (c .before .before .read-halfedge .ensures) i;
+      second = halfedge-is twin vert edge l (3 * t + 1) (next-1 t) (prev-1 t) b d a (c .before .read-halfedge2 .ensures) i;
+      third = halfedge-is twin vert edge l (3 * t + 2) (next-2 t) (prev-2 t) d a b (c .read-halfedge3 .ensures) i;
     }
 
 pub read-triangle-spec : {M : Type 1} → statement M
 read-triangle-spec =
     tie.close
     (tie.spec
-    corners-of-requires
-    corners-of-requires-2
-    corners-of-requires-3
-    array-read-point-of
-    cast-point-of
-    point-of-requires
-    array-read-point-of-2
-    cast-point-of-2
-    point-of-requires-2
-    array-read-point-of-3
-    cast-point-of-3
-    point-of-requires-3
+    mul-one
+    add-two
+    add-three
+    read-corner-requires
+    read-corner-requires-2
+    read-corner-requires-3
+    read-halfedge-requires
+    read-halfedge-requires-2
+    read-halfedge-requires-3
     returns)

@@ -1,8 +1,7 @@
 -- `step_edge` goes by whether there is a twin.
 use borrow.Author.Needs.{needs}
-use borrow.Author.Tests.{eq-eqb, ne-eqb}
-use Rattle.halfedges.specs.Cage.{marker}
-use Rattle.edgepoints.specs.Internal.Edges.{stepEdge}
+use mathlib.Core.Path.{sym, _∙_}
+use Rattle.edgepoints.proofs.Writes.{border-way, inner-way}
 use Rattle.edgepoints.proofs.edges.step_edge.Statement.{statement}
 use Rattle.edgepoints.proofs.edges.step_edge.Tie as tie
 
@@ -13,10 +12,10 @@ same-length : tie.Need-same-length
 same-length c = search needs
 
 returns : tie.Need-returns
-unfolding stepEdge
 returns c =
     let b = c .before .before .before in
-    rw (eq-eqb (b .before .args .twin) marker (b .if1 .taken)) (c .before .put-border .ensures)
+    let s = b .before .before in
+    c .before .put-border .ensures ∙ sym (border-way (s .args .vertices) (s .args .halfedge) (s .args .points .now) (b .if1 .taken))
 
 step-inner-requires : tie.Need-step-inner-requires
 step-inner-requires c κs = search needs
@@ -25,10 +24,10 @@ same-length-2 : tie.Need-same-length-2
 same-length-2 c = search needs
 
 returns-2 : tie.Need-returns-2
-unfolding stepEdge
 returns-2 c =
     let b = c .before .before .before in
-    rw (ne-eqb (b .before .args .twin) marker (b .if1 .left)) (c .before .step-inner .ensures)
+    let s = b .before .before in
+    c .before .step-inner .ensures ∙ sym (inner-way (s .args .vertices) (s .args .halfedge) (s .args .points .now) (b .if1 .left))
 
 pub step-edge-spec : {M : Type 1} → statement M
 step-edge-spec =

@@ -6,7 +6,7 @@ use lib.ListN.{length}
 use borrow.Author.Needs.{needs}
 use Rattle.laws.specs.Internal.Steps.{steps}
 use Rattle.laws.proofs.Steps.{steps-none, steps-end}
-use Rattle.edgepoints.specs.Internal.Edges.{Edged, putEdge, StartedTriangle}
+use Rattle.edgepoints.specs.Internal.Edges.{Asks, stepEdge, triangleOf, Readable, AskedInTurn, putEdge}
 use Rattle.edgepoints.proofs.Writes.{triangle-asks, triangle-same}
 use Rattle.edgepoints.proofs.edges.write_edges.Statement.{statement}
 use Rattle.edgepoints.proofs.edges.write_edges.Tie as tie
@@ -27,7 +27,7 @@ write-triangle-requires c κs =
     let n = s .args .vertices in
     let t = b .loop .triangle in
     let inside : 3 * b .loop .triangle + 2 < length (s .args .vert .now) = omega (arith, s .pre .0 .cornered .whole) in
-    subst (λ m. Edged (s .args .twin .now) (s .args .vert .now) (s .args .edge .now) n m × (3 * t + 2 < length (s .args .vert .now)) × StartedTriangle (s .args .twin .now) (s .args .vert .now) (s .args .edge .now) n m t m) (sym (b .loop .inv .2))
+    subst (λ m. Readable (s .args .twin .now) (s .args .vert .now) (s .args .edge .now) m t × AskedInTurn (Asks n) (stepEdge n) (triangleOf (s .args .twin .now) (s .args .vert .now) (s .args .edge .now) m t) m) (sym (b .loop .inv .2))
     (triangle-asks (s .args .twin .now) (s .args .vert .now) (s .args .edge .now) n (s .args .points .now) (s .pre .0) t inside (s .pre .1))
 
 add-triangle : tie.Need-add-triangle Inv-loop μ-loop

@@ -1,12 +1,13 @@
 -- `write_triangle` hands on what it reads of a triangle; both ways are the steps of its definition.
-use Prim.Native.Nat.{ℕ, _*_}
-use mathlib.Core.Path.{_≡_, sym, ap, _∙_, subst}
-use mathlib.Core.List.{List}
-use native.Mathlib.Omega.{arith}
-use lib.IntN.{ℤ}
 use borrow.Author.Needs.{needs}
-use Rattle.edgepoints.specs.Internal.Edges.{triangleOf, stepTriangle, AsksTriangle, putTriangle}
-use Rattle.edgepoints.proofs.Writes.{triangle-is, triangle-asked, triangle-readable}
+use Prim.Native.Nat.{ℕ}
+use mathlib.Core.Path.{_≡_, sym, ap, _∙_, subst}
+use mathlib.Core.Bool.{false}
+use mathlib.Core.List.{List}
+use lib.IntN.{ℤ}
+use Rattle.edgepoints.specs.declared.edges.Triangle.{Triangle}
+use Rattle.edgepoints.specs.Internal.Edges.{Asks, stepEdge, triangleOf, borderAmong, inTurn, AskedInTurn}
+use Rattle.edgepoints.proofs.Writes.{inner-turns, inner-asked}
 use Rattle.edgepoints.proofs.edges.write_triangle.Statement.{statement}
 use Rattle.edgepoints.proofs.edges.write_triangle.Tie as tie
 
@@ -17,52 +18,49 @@ module _ (a : tie.After-read-triangle) where
   abbrev n : ℕ
   n = s .args .vertices
 
-  abbrev t : ℕ
-  t = s .args .triangle
-
   abbrev l : List ℤ
   l = s .args .points .now
 
-  read-is : a .read-triangle .result ≡ triangleOf (s .args .twin .now) (s .args .vert .now) (s .args .edge .now) l t
-  read-is = a .read-triangle .ensures
+  abbrev read : Triangle
+  read = a .read-triangle .result
 
-  asked : AsksTriangle n (3 * t) (a .read-triangle .result) l
-  asked = subst (λ x. AsksTriangle n (3 * t) x l) (sym read-is) (triangle-asked (s .args .twin .now) (s .args .vert .now) (s .args .edge .now) n l t (s .pre .0) (s .pre .1) (s .pre .2))
+  asked : AskedInTurn (Asks n) (stepEdge n) read l
+  asked = subst (λ x. AskedInTurn (Asks n) (stepEdge n) x l) (sym (a .read-triangle .ensures)) (s .pre .1)
 
-  steps-are : stepTriangle n (3 * t) (a .read-triangle .result) l ≡ putTriangle (s .args .twin .now) (s .args .vert .now) (s .args .edge .now) n l t l
-  steps-are = ap (λ x. stepTriangle n (3 * t) x l) read-is ∙ triangle-is (s .args .twin .now) (s .args .vert .now) (s .args .edge .now) n l t l
+  steps-are : inTurn (stepEdge n) read l ≡ inTurn (stepEdge n) (triangleOf (s .args .twin .now) (s .args .vert .now) (s .args .edge .now) l (s .args .triangle)) l
+  steps-are = ap (λ x. inTurn (stepEdge n) x l) (a .read-triangle .ensures)
+
+none : (e : tie.Else1) → borderAmong (read (e .before .before)) ≡ false
+none e = sym (e .before .border-among .ensures) ∙ e .if1 .left
 
 read-triangle-requires : tie.Need-read-triangle-requires
-read-triangle-requires c κs =
-    let s = c .before .before .before .before in
-    ((omega (arith, s .pre .0 .twin-long, s .pre .1), s .pre .1, omega (arith, s .pre .0 .edge-long, s .pre .1)), triangle-readable (s .args .twin .now) (s .args .vert .now) (s .args .edge .now) (s .args .vertices) (s .args .points .now) (s .args .triangle) (s .pre .0) (s .pre .1))
+read-triangle-requires c κs = search needs
 
 border-among-requires : tie.Need-border-among-requires
 border-among-requires c κs = search needs
 
-mul-write-any : tie.Need-mul-write-any
-mul-write-any c = search needs
-
 write-any-requires : tie.Need-write-any-requires
-write-any-requires c κs = asked (c .before .before .before .before)
+write-any-requires c κs = asked (c .before .before .before)
 
 same-length : tie.Need-same-length
 same-length c = search needs
 
 returns : tie.Need-returns
-returns c = c .before .write-any .ensures ∙ steps-are (c .before .before .before .before .before .before)
-
-mul-write-inner : tie.Need-mul-write-inner
-mul-write-inner c = search needs
+returns c = c .before .write-any .ensures ∙ steps-are (c .before .before .before .before .before)
 
 write-inner-requires : tie.Need-write-inner-requires
-write-inner-requires c κs = (asked (c .before .before .before .before), sym (c .before .before .border-among .ensures) ∙ c .before .if1 .left)
+write-inner-requires c κs =
+    let a = c .before .before .before in
+    inner-asked (n a) (read a) (l a) (none (c .before)) (asked a)
 
 same-length-2 : tie.Need-same-length-2
 same-length-2 c = search needs
 
 returns-2 : tie.Need-returns-2
-returns-2 c = c .before .write-inner .ensures ∙ steps-are (c .before .before .before .before .before .before)
+returns-2 c =
+    let e = c .before .before .before in
+    let a = e .before .before in
+    c .before .write-inner .ensures ∙ inner-turns (n a) (read a) (l a) (none e) ∙ steps-are a
 
 pub write-triangle-spec : {M : Type 1} → statement M
 write-triangle-spec =
@@ -70,11 +68,9 @@ write-triangle-spec =
     (tie.spec
     read-triangle-requires
     border-among-requires
-    mul-write-any
     write-any-requires
     same-length
     returns
-    mul-write-inner
     write-inner-requires
     same-length-2
     returns-2)
