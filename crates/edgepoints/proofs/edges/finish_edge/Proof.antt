@@ -24,8 +24,7 @@ returns c =
     let z = c .before .before .before in
     let y = z .before .before in
     let x = y .before .before in
-    let s = x .before .before in
-    put-stored (s .args .to) _ (s .args .points .now) (x .finished-at .ok) (y .finished-at2 .ok) (z .finished-at3 .ok) (c .before .put-point .ensures) (x .finished-at .ensures) (y .finished-at2 .ensures) (z .finished-at3 .ensures)
+    put-stored _ _ _ (x .finished-at .ok) (y .finished-at2 .ok) (z .finished-at3 .ok) (c .before .put-point .ensures) (x .finished-at .ensures) (y .finished-at2 .ensures) (z .finished-at3 .ensures)
 
 pub finish-edge-spec : {M : Type 1} → statement M
 finish-edge-spec =

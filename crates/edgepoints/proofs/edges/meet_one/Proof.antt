@@ -24,8 +24,7 @@ returns c =
     let z = c .before .before .before in
     let y = z .before .before in
     let x = y .before .before in
-    let s = x .before .before in
-    put-stored (s .args .to) _ (s .args .points .now) (x .met-at .ok) (y .met-at2 .ok) (z .met-at3 .ok) (c .before .put-point .ensures) (x .met-at .ensures) (y .met-at2 .ensures) (z .met-at3 .ensures)
+    put-stored _ _ _ (x .met-at .ok) (y .met-at2 .ok) (z .met-at3 .ok) (c .before .put-point .ensures) (x .met-at .ensures) (y .met-at2 .ensures) (z .met-at3 .ensures)
 
 pub meet-one-spec : {M : Type 1} → statement M
 meet-one-spec =

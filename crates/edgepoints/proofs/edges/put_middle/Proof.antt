@@ -24,8 +24,7 @@ returns c =
     let z = c .before .before .before in
     let y = z .before in
     let x = y .before in
-    let s = x .before in
-    put-stored (s .args .to) _ (s .args .points .now) (x .middle-at .ok) (y .middle-at2 .ok) (z .middle-at3 .ok) (c .before .put-point .ensures) (x .middle-at .ensures) (y .middle-at2 .ensures) (z .middle-at3 .ensures)
+    put-stored _ _ _ (x .middle-at .ok) (y .middle-at2 .ok) (z .middle-at3 .ok) (c .before .put-point .ensures) (x .middle-at .ensures) (y .middle-at2 .ensures) (z .middle-at3 .ensures)
 
 pub put-middle-spec : {M : Type 1} → statement M
 put-middle-spec =

@@ -24,8 +24,7 @@ returns c =
     let z = c .before .before .before in
     let y = z .before in
     let x = y .before in
-    let s = x .before in
-    put-stored (s .args .to) _ (s .args .points .now) (x .started-at .ok) (y .started-at2 .ok) (z .started-at3 .ok) (c .before .put-point .ensures) (x .started-at .ensures) (y .started-at2 .ensures) (z .started-at3 .ensures)
+    put-stored _ _ _ (x .started-at .ok) (y .started-at2 .ok) (z .started-at3 .ok) (c .before .put-point .ensures) (x .started-at .ensures) (y .started-at2 .ensures) (z .started-at3 .ensures)
 
 pub start-edge-spec : {M : Type 1} → statement M
 start-edge-spec =

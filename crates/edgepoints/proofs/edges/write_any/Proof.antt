@@ -8,9 +8,7 @@ step-edge-requires : tie.Need-step-edge-requires
 step-edge-requires c κs = search needs
 
 step-edge-requires-2 : tie.Need-step-edge-requires-2
-step-edge-requires-2 c κs =
-    let one = c .before .before in
-    asked-two (one .before .before .pre) (one .step-edge .ensures)
+step-edge-requires-2 c κs = asked-two (c .before .before .before .before .pre) (c .before .before .step-edge .ensures)
 
 step-edge-requires-3 : tie.Need-step-edge-requires-3
 step-edge-requires-3 c κs =

@@ -8,9 +8,7 @@ step-inner-requires : tie.Need-step-inner-requires
 step-inner-requires c κs = search needs
 
 step-inner-requires-2 : tie.Need-step-inner-requires-2
-step-inner-requires-2 c κs =
-    let one = c .before .before in
-    asked-two (one .before .before .pre) (one .step-inner .ensures)
+step-inner-requires-2 c κs = asked-two (c .before .before .before .before .pre) (c .before .before .step-inner .ensures)
 
 step-inner-requires-3 : tie.Need-step-inner-requires-3
 step-inner-requires-3 c κs =
