@@ -24,7 +24,7 @@ use Rattle.tables.specs.Tables.{leaves}
 use Rattle.points.specs.NextPoints.{coordinate, far}
 use Rattle.points.specs.Operations.{most-coordinate, InRange}
 use Rattle.points.specs.Internal.Relied.{Bordered, borderLeaves, borderEnds, Carried}
-use Rattle.points.specs.Internal.Cells.{value, put, pointOf}
+use Rattle.points.specs.Internal.Cells.{value, put}
 use Rattle.points.specs.Internal.Parts.{met}
 use Rattle.edgepoints.specs.Internal.Edges.{middle, meeting, meet, borderEdge, inner, innerEdge, cornerOf, halfedgeOf, Edged, putEdge}
 use Rattle.points.proofs.Ends.{leavingSum, endingSum, creaseSum, creases-at-most, far-below}

@@ -5,7 +5,9 @@ ghost use lib.ListN.{length};
 ghost use Rattle.laws.specs.Internal.Steps.{steps};
 ghost use Rattle.halfedges.specs.Cage.{cell};
 ghost use Rattle.points.specs.Internal.Cells.{put};
-ghost use Rattle.edgepoints.specs.Internal.Edges.{Spanned, AsksFinish, AsksMeet, middle, start, finish, meeting, borderEdge, AsksInner, innerEdge, Asks, stepEdge, cornerOf, between, triangleOf, Readable, borderAmong, inTurn, AskedInTurn, Edged, Started, putEdge};
+ghost use Rattle.edgepoints.specs.Internal.Edges.{Spanned, AsksFinish, AsksMeet, AsksInner, Asks, Readable, AskedInTurn, Edged, Started};
+ghost use Rattle.edgepoints.specs.Internal.Edges.{middle, start, finish, meeting, meet, borderEdge, innerEdge, stepEdge, inTurn, putEdge};
+ghost use Rattle.edgepoints.specs.Internal.Edges.{cornerOf, between, triangleOf, borderAmong};
 use halfedges::table::HalfedgeTable;
 use points::cells::point_of;
 use points::cells::put_point;
@@ -37,7 +39,7 @@ struct Triangle {
     third: Halfedge,
 }
 
-// Coordinate k of the part of the lower halfedge in the point of an inner edge.
+// Coordinate k of the part that the lower halfedge has in the point of an inner edge.
 fn started_at(halfedge: Halfedge, k: usize) -> i32
     requires { ⌜ (Spanned halfedge) × (k < 3) ⌝ }
     ensures { λ r. ⌜ r ≡ start halfedge k ⌝ }
@@ -48,6 +50,7 @@ fn started_at(halfedge: Halfedge, k: usize) -> i32
     started_edge(a[k], b[k], c[k])
 }
 
+// The part of the lower halfedge in the point of an inner edge.
 fn start_edge(points: &mut [i32], to: usize, halfedge: Halfedge)
     requires { ⌜ (Spanned halfedge) × (to + 2 < length (now points)) ⌝ }
     ensures { λ _. ⌜ now (points .exit) ≡ put to (start halfedge) (now (points .entry)) ⌝ }
@@ -58,7 +61,7 @@ fn start_edge(points: &mut [i32], to: usize, halfedge: Halfedge)
     put_point(&mut *points, to, x, y, z);
 }
 
-// Coordinate k of the point of an inner edge, which the part of the higher halfedge makes of what the lower one left.
+// Coordinate k of the point of an inner edge, which the higher halfedge makes of what the lower one left.
 fn finished_at(points: &[i32], to: usize, halfedge: Halfedge, k: usize) -> i32
     requires { ⌜ (AsksFinish halfedge to (now points)) × (k < 3) ⌝ }
     ensures { λ r. ⌜ r ≡ finish halfedge (now (points .entry)) to k ⌝ }
@@ -67,6 +70,7 @@ fn finished_at(points: &[i32], to: usize, halfedge: Halfedge, k: usize) -> i32
     finished_edge(points[to + k], d[k])
 }
 
+// The part of the higher halfedge in the point of an inner edge.
 fn finish_edge(points: &mut [i32], to: usize, halfedge: Halfedge)
     requires { ⌜ AsksFinish halfedge to (now points) ⌝ }
     ensures { λ _. ⌜ now (points .exit) ≡ put to (finish halfedge (now (points .entry)) to) (now (points .entry)) ⌝ }
@@ -87,6 +91,7 @@ fn middle_at(halfedge: Halfedge, k: usize) -> i32
     border_edge(a[k], b[k])
 }
 
+// The middle of a border edge.
 fn put_middle(points: &mut [i32], to: usize, halfedge: Halfedge)
     requires { ⌜ (Spanned halfedge) × (to + 2 < length (now points)) ⌝ }
     ensures { λ _. ⌜ now (points .exit) ≡ put to (middle halfedge) (now (points .entry)) ⌝ }
@@ -97,7 +102,7 @@ fn put_middle(points: &mut [i32], to: usize, halfedge: Halfedge)
     put_point(&mut *points, to, x, y, z);
 }
 
-// Coordinate k of the new place of a border's vertex, once it has met its neighbour.
+// Coordinate k of the new place of a border vertex that meets a neighbour.
 fn met_at(points: &[i32], to: usize, corner: Corner, neighbour: Corner, k: usize) -> i32
     requires { ⌜ (AsksMeet corner neighbour to (now points)) × (k < 3) ⌝ }
     ensures { λ r. ⌜ r ≡ meeting corner neighbour (now (points .entry)) to k ⌝ }
@@ -107,10 +112,12 @@ fn met_at(points: &[i32], to: usize, corner: Corner, neighbour: Corner, k: usize
     border_vertex(points[to + k], v[k], a[k])
 }
 
-fn meet_one(points: &mut [i32], to: usize, corner: Corner, neighbour: Corner)
-    requires { ⌜ AsksMeet corner neighbour to (now points) ⌝ }
-    ensures { λ _. ⌜ now (points .exit) ≡ put to (meeting corner neighbour (now (points .entry)) to) (now (points .entry)) ⌝ }
+// A border vertex meets a neighbour.
+fn meet_one(points: &mut [i32], vertices: usize, corner: Corner, neighbour: Corner)
+    requires { ⌜ AsksMeet corner neighbour (3 * vertices + 3 * corner .vertex) (now points) ⌝ }
+    ensures { λ _. ⌜ now (points .exit) ≡ meet vertices corner neighbour (now (points .entry)) ⌝ }
 {
+    let to = 3 * vertices + 3 * corner.vertex as usize;
     let x = met_at(&*points, to, corner, neighbour, 0);
     let y = met_at(&*points, to, corner, neighbour, 1);
     let z = met_at(&*points, to, corner, neighbour, 2);
@@ -129,8 +136,8 @@ fn put_border(points: &mut [i32], vertices: usize, halfedge: Halfedge)
         6 * vertices + 3 * halfedge.edge as usize,
         halfedge,
     );
-    meet_one(&mut *points, 3 * vertices + 3 * a.vertex as usize, a, b);
-    meet_one(&mut *points, 3 * vertices + 3 * b.vertex as usize, b, a);
+    meet_one(&mut *points, vertices, a, b);
+    meet_one(&mut *points, vertices, b, a);
 }
 
 // The part of a halfedge that has a twin.
@@ -168,7 +175,7 @@ fn read_corner(vert: &[u32], points: &[i32], halfedge: usize) -> Corner
     Corner { vertex, point }
 }
 
-// A halfedge, with its triangle's corners from its own on.
+// A halfedge between two corners of its triangle, opposite to the third.
 fn read_halfedge(
     twin: &[u32],
     edge: &[u32],
@@ -190,6 +197,7 @@ fn read_halfedge(
     }
 }
 
+// What a triangle has of the tables, and its corners' points.
 fn read_triangle(
     twin: &[u32],
     vert: &[u32],

@@ -17,7 +17,7 @@ use Rattle.points.specs.Internal.Relied.{Cornered}
 use Rattle.points.specs.Internal.Cells.{value, put, pointOf, Near}
 use Rattle.points.specs.Internal.Parts.{started, finished, met}
 
--- the three corners that halfedge h knows are in range
+-- a halfedge's ends and its opposite corner are in range
 pub record Spanned (h : Halfedge) : Type 0 where
   pub from-near : Near (h .from .point)
   pub to-near : Near (h .to .point)
@@ -27,14 +27,14 @@ pub record Spanned (h : Halfedge) : Type 0 where
 abbrev pub middle : Halfedge → ℕ → ℤ
 middle h k = E1 (value (h .from .point) k) (value (h .to .point) k)
 
--- coordinate k of what the lower halfedge of an inner edge leaves, and of what the higher one makes of that, at cell i and on (E.2)
+-- coordinate k of what the lower halfedge of an inner edge leaves, and of what the higher one makes of that, from cell i on (E.2)
 abbrev pub start : Halfedge → ℕ → ℤ
 start h k = started (value (h .from .point) k) (value (h .to .point) k) (value (h .opposite .point) k)
 
 abbrev pub finish : Halfedge → List ℤ → ℕ → ℕ → ℤ
 finish h l i k = finished (value l (i + k)) (value (h .opposite .point) k)
 
--- a lower halfedge has been at cell i
+-- the lower halfedge of an inner edge has been there
 abbrev pub Begun : List ℤ → ℕ → Type 0
 Begun l i = (k : ℕ) → k < 3 → natAbs (value l (i + k)) ≤ most-coordinate * 7
 
@@ -44,7 +44,7 @@ pub record AsksFinish (h : Halfedge) (i : ℕ) (l : List ℤ) : Type 0 where
   pub room : i + 2 < length l
   pub begun : Begun l i
 
--- coordinate k of the place, at cell i and on, of a border's vertex at a that meets its neighbour at b (V.2)
+-- coordinate k of the new place, from cell i on, of a border vertex a that meets its neighbour b (V.2)
 abbrev pub meeting : Corner → Corner → List ℤ → ℕ → ℕ → ℤ
 meeting a b l i k = met (value l (i + k)) (value (a .point) k) (value (b .point) k)
 
@@ -54,10 +54,11 @@ pub record AsksMeet (a b : Corner) (i : ℕ) (l : List ℤ) : Type 0 where
   pub near : Near (a .point)
   pub neighbour-near : Near (b .point)
 
+-- vertex a meets its neighbour b
 unfoldable pub meet : ℕ → Corner → Corner → List ℤ → List ℤ
 meet n a b l = put (3 * n + 3 * a .vertex) (meeting a b l (3 * n + 3 * a .vertex)) l
 
--- the cells of a halfedge's edge
+-- where the point of a halfedge's edge is
 abbrev pub place : ℕ → Halfedge → ℕ
 place n h = 6 * n + 3 * h .edge
 
@@ -65,7 +66,7 @@ place n h = 6 * n + 3 * h .edge
 unfoldable pub borderEdge : ℕ → Halfedge → List ℤ → List ℤ
 borderEdge n h l = meet n (h .to) (h .from) (meet n (h .from) (h .to) (put (place n h) (middle h) l))
 
--- a halfedge with a twin, the lower or the higher of the two
+-- a halfedge with a twin: the higher of the two finishes what the lower one starts
 abbrev pub inner : ℕ → Halfedge → List ℤ → ℕ → ℤ
 inner n h l = cond (ltb (h .twin) (h .number)) (finish h l (place n h)) (start h)
 
@@ -111,7 +112,7 @@ triangleOf twin vert edge points t =
       third = halfedgeOf twin vert edge points (3 * t + 2);
     }
 
--- the tables have triangle t, and its corners have points
+-- the tables have triangle t, and every corner has a point
 pub record Readable (twin vert edge : List ℕ) (points : List ℤ) (t : ℕ) : Type 0 where
   pub in-twin : 3 * t + 2 < length twin
   pub in-vert : 3 * t + 2 < length vert

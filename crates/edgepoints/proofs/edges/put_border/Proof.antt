@@ -29,48 +29,23 @@ add-put-middle c = search needs
 put-middle-requires : tie.Need-put-middle-requires
 put-middle-requires c κs = search needs
 
-mul-meet-one : tie.Need-mul-meet-one
-mul-meet-one c = search needs
-
-cast-meet-one : tie.Need-cast-meet-one
-cast-meet-one c = search needs
-
-mul-meet-one-2 : tie.Need-mul-meet-one-2
-mul-meet-one-2 c = search needs
-
-add-meet-one : tie.Need-add-meet-one
-add-meet-one c = search needs
-
 meet-one-requires : tie.Need-meet-one-requires
 meet-one-requires c κs =
-    let near = c .before .before .before .before .before .before .before .before .pre .inner-asks .spanned in
+    let near = c .before .before .before .before .before .before .before .pre .inner-asks .spanned in
     record { room = search needs; near = near .from-near; neighbour-near = near .to-near }
-
-mul-meet-one-3 : tie.Need-mul-meet-one-3
-mul-meet-one-3 c = search needs
-
-cast-meet-one-2 : tie.Need-cast-meet-one-2
-cast-meet-one-2 c = search needs
-
-mul-meet-one-4 : tie.Need-mul-meet-one-4
-mul-meet-one-4 c = search needs
-
-add-meet-one-2 : tie.Need-add-meet-one-2
-add-meet-one-2 c = search needs
 
 meet-one-requires-2 : tie.Need-meet-one-requires-2
 meet-one-requires-2 c κs =
-    let near = c .before .before .before .before .before .before .before .before .before .before .before .before .pre .inner-asks .spanned in
+    let near = c .before .before .before .before .before .before .before .before .before .before .pre .inner-asks .spanned in
     record { room = search needs; near = near .to-near; neighbour-near = near .from-near }
 
 same-length : tie.Need-same-length
 same-length c = search needs
 
 returns : tie.Need-returns
-unfolding meet
 returns c =
-    let two = c .before .before .before .before .before in
-    let one = two .before .before .before .before in
+    let two = c .before .before .before .before in
+    let one = two .before .before .before in
     let s = one .before .before .before .before .before in
     three-puts (s .args .vertices) (s .args .halfedge) (s .args .points .now) (one .put-middle .ensures) (two .meet-one .ensures) (c .before .meet-one2 .ensures)
 
@@ -83,15 +58,7 @@ put-border-spec =
     mul-put-middle-2
     add-put-middle
     put-middle-requires
-    mul-meet-one
-    cast-meet-one
-    mul-meet-one-2
-    add-meet-one
     meet-one-requires
-    mul-meet-one-3
-    cast-meet-one-2
-    mul-meet-one-4
-    add-meet-one-2
     meet-one-requires-2
     same-length
     returns)
