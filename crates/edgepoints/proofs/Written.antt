@@ -57,8 +57,12 @@ module _ (twin vert edge : List ℕ) (n : ℕ) (points l : List ℤ) (edged : Ed
   pub written-only : (i : ℕ) → i ≤ length vert → Only (3 * n) (6 * n + 3 * e) l (after i)
   written-only = only-steps (3 * n) (6 * n + 3 * e) (length vert) (putEdge twin vert edge n l) l (λ h b m _. let c = carried .below h (in-edge b) in put-step-only twin vert edge n l (6 * n + 3 * e) (edged .cornered) h b (omega arith) m)
 
+  -- what halfedge h leaves where it is the lower one of its edge
+  abbrev begins : ℕ → ℕ → ℤ
+  begins h k = started (coordinate points k (cell vert h)) (coordinate points k (far vert h)) (coordinate points k (cell vert (PREV h)))
+
   -- E.2 as the two halfedges make it
-  inner-is : (h k : ℕ) → cell twin h ≢ marker → finished (started (coordinate points k (cell vert h)) (coordinate points k (far vert h)) (coordinate points k (cell vert (PREV h)))) (coordinate points k (cell vert (PREV (cell twin h)))) ≡ edgePoint twin vert points h k
+  inner-is : (h k : ℕ) → cell twin h ≢ marker → finished (begins h k) (coordinate points k (cell vert (PREV (cell twin h)))) ≡ edgePoint twin vert points h k
   unfolding edgePoint E2
   inner-is h k t = rw (ne-eqb _ marker t)
 
@@ -88,7 +92,7 @@ module _ (twin vert edge : List ℕ) (n : ℕ) (points l : List ℤ) (edged : Ed
     unfolding edgePoint
     border-hit e t = hit e ∙ own-border n x m k t ∙ rw (from-is h k b lk, end-is h k b lk, eq-eqb _ marker t)
 
-    start-hit : cell edge h ≡ c → h < cell twin h → cell twin h ≢ marker → value (putEdge twin vert edge n l h m) at ≡ started (coordinate points k (cell vert h)) (coordinate points k (far vert h)) (coordinate points k (cell vert (PREV h)))
+    start-hit : cell edge h ≡ c → h < cell twin h → cell twin h ≢ marker → value (putEdge twin vert edge n l h m) at ≡ begins h k
     start-hit e t u = hit e ∙ own-start n x m k (omega arith) u ∙ rw (from-is h k b lk, end-is h k b lk, opposite-is h k b lk)
 
     finish-hit : cell edge h ≡ c → cell twin h < h → value (putEdge twin vert edge n l h m) at ≡ finished (value m at) (coordinate points k (cell vert (PREV h)))
@@ -110,7 +114,7 @@ module _ (twin vert edge : List ℕ) (n : ℕ) (points l : List ℤ) (edged : Ed
 
     -- edge c's cells once i halfedges have had their turn, the lower one among them
     abbrev grown : ℕ → ℤ
-    grown i = cond (border twin low) (edgePoint twin vert points low k) (cond (ltb high i) (edgePoint twin vert points low k) (started (coordinate points k (cell vert low)) (coordinate points k (far vert low)) (coordinate points k (cell vert (PREV low)))))
+    grown i = cond (border twin low) (edgePoint twin vert points low k) (cond (ltb high i) (edgePoint twin vert points low k) (begins low k))
 
     pub written-is : (i : ℕ) → i ≤ length vert → carrier edge c < i → value (after i) (6 * n + 3 * c + k) ≡ grown i
     unfolding steps
@@ -126,7 +130,7 @@ module _ (twin vert edge : List ℕ) (n : ℕ) (points l : List ℤ) (edged : Ed
         first q (no t) =
             let up : low < high = ltb-true low high (rw (ne-eqb high marker t) at (carrier-first twin edge e carried c lc)) in
             rw (ne-eqb high marker t, le-ltb high (suc i) (omega (arith, q, up)))
-            (subst (λ j. value (after (suc i)) (6 * n + 3 * c + k) ≡ started (coordinate points k (cell vert j)) (coordinate points k (far vert j)) (coordinate points k (cell vert (PREV j)))) (sym q)
+            (subst (λ j. value (after (suc i)) (6 * n + 3 * c + k) ≡ begins j k) (sym q)
             (start-hit c k lk i b (after i) long (sym (ap (cell edge) q) ∙ low-carries) (rw q at up) (rw q at t)))
 
         -- the twin's turn
@@ -139,7 +143,7 @@ module _ (twin vert edge : List ℕ) (n : ℕ) (points l : List ℤ) (edged : Ed
             rw (ne-eqb high marker t, lt-ltb high (suc i) (omega (arith, q)))
             (finish-hit c k lk i b (after i) long carries (rw back (omega (arith, up, q)))
             ∙ ap (λ z. finished z (coordinate points k (cell vert (PREV i)))) now
-            ∙ ap (λ j. finished (started (coordinate points k (cell vert low)) (coordinate points k (far vert low)) (coordinate points k (cell vert (PREV low)))) (coordinate points k (cell vert (PREV j)))) q
+            ∙ ap (λ j. finished (begins low k) (coordinate points k (cell vert (PREV j)))) q
             ∙ inner-is low k t)
 
         -- another's
@@ -174,7 +178,7 @@ module _ (twin vert edge : List ℕ) (n : ℕ) (points l : List ℤ) (edged : Ed
         by (no t) = rw (ne-eqb high marker t, lt-ltb high (length vert) (omega (arith, edged .twin-long, carried .twin-below low (in-twin low-below) t)))
 
   module _ (range : InRange points) where
-    started-small : (h k : ℕ) → natAbs (started (coordinate points k (cell vert h)) (coordinate points k (far vert h)) (coordinate points k (cell vert (PREV h)))) ≤ most-coordinate * 7
+    started-small : (h k : ℕ) → natAbs (begins h k) ≤ most-coordinate * 7
     started-small h k =
         started-at-most most-coordinate (coordinate points k (cell vert h)) (coordinate points k (far vert h)) (coordinate points k (cell vert (PREV h)))
         (any-in-range points range (3 * cell vert h + k))

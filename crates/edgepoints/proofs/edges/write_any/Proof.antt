@@ -11,19 +11,13 @@ step-edge-requires-2 : tie.Need-step-edge-requires-2
 step-edge-requires-2 c κs = asked-two (c .before .before .before .before .pre) (c .before .before .step-edge .ensures)
 
 step-edge-requires-3 : tie.Need-step-edge-requires-3
-step-edge-requires-3 c κs =
-    let two = c .before .before in
-    let one = two .before .before .before in
-    asked-three (one .before .before .pre) (one .step-edge .ensures) (two .step-edge2 .ensures)
+step-edge-requires-3 c κs = asked-three (c .before .before .before .before .before .before .before .pre) (c .before .before .before .before .before .step-edge .ensures) (c .before .before .step-edge2 .ensures)
 
 same-length : tie.Need-same-length
 same-length c = search needs
 
 returns : tie.Need-returns
-returns c =
-    let two = c .before .before .before .before in
-    let one = two .before .before .before in
-    turns-are (one .before .before .pre) (one .step-edge .ensures) (two .step-edge2 .ensures) (c .before .step-edge3 .ensures)
+returns c = turns-are (c .before .before .before .before .before .before .before .before .before .pre) (c .before .before .before .before .before .before .before .step-edge .ensures) (c .before .before .before .before .step-edge2 .ensures) (c .before .step-edge3 .ensures)
 
 pub write-any-spec : {M : Type 1} → statement M
 write-any-spec =

@@ -11,19 +11,13 @@ step-inner-requires-2 : tie.Need-step-inner-requires-2
 step-inner-requires-2 c κs = asked-two (c .before .before .before .before .pre) (c .before .before .step-inner .ensures)
 
 step-inner-requires-3 : tie.Need-step-inner-requires-3
-step-inner-requires-3 c κs =
-    let two = c .before .before in
-    let one = two .before .before .before in
-    asked-three (one .before .before .pre) (one .step-inner .ensures) (two .step-inner2 .ensures)
+step-inner-requires-3 c κs = asked-three (c .before .before .before .before .before .before .before .pre) (c .before .before .before .before .before .step-inner .ensures) (c .before .before .step-inner2 .ensures)
 
 same-length : tie.Need-same-length
 same-length c = search needs
 
 returns : tie.Need-returns
-returns c =
-    let two = c .before .before .before .before in
-    let one = two .before .before .before in
-    turns-are (one .before .before .pre) (one .step-inner .ensures) (two .step-inner2 .ensures) (c .before .step-inner3 .ensures)
+returns c = turns-are (c .before .before .before .before .before .before .before .before .before .pre) (c .before .before .before .before .before .before .before .step-inner .ensures) (c .before .before .before .before .step-inner2 .ensures) (c .before .step-inner3 .ensures)
 
 pub write-inner-spec : {M : Type 1} → statement M
 write-inner-spec =
