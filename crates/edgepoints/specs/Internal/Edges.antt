@@ -40,8 +40,8 @@ Begun l i = (k : ℕ) → k < 3 → natAbs (value l (i + k)) ≤ most-coordinate
 
 -- what `finish` asks
 pub record AsksFinish (h : Halfedge) (i : ℕ) (l : List ℤ) : Type 0 where
-  pub spanned : Spanned h
   pub room : i + 2 < length l
+  pub near : Near (h .opposite .point)
   pub begun : Begun l i
 
 -- coordinate k of the new place, from cell i on, of a border vertex a that meets its neighbour b (V.2)

@@ -29,7 +29,7 @@ finished-edge-requires c κs =
     let a = c .before in
     let s = a .before .before in
     let sum = value (s .args .points .now) (s .args .to + s .args .k) in
-    (rw (back-of w32 sum (a .finished-edge-arg .given)) (s .pre .0 .begun (s .args .k) (s .pre .1)), near-kept (s .args .halfedge .opposite .point) (s .pre .0 .spanned .opposite-near) (s .args .k) (s .pre .1))
+    (rw (back-of w32 sum (a .finished-edge-arg .given)) (s .pre .0 .begun (s .args .k) (s .pre .1)), near-kept (s .args .halfedge .opposite .point) (s .pre .0 .near) (s .args .k) (s .pre .1))
 
 returns : tie.Need-returns
 returns c =
@@ -38,7 +38,7 @@ returns c =
     let sum = value (s .args .points .now) (s .args .to + s .args .k) in
     back-of w32 _ (c .finished-edge .ok)
     ∙ c .finished-edge .ensures
-    ∙ rw (back-of w32 sum (a .finished-edge-arg .given), near-stored (s .args .halfedge .opposite .point) (s .pre .0 .spanned .opposite-near) (s .args .k) (s .pre .1))
+    ∙ rw (back-of w32 sum (a .finished-edge-arg .given), near-stored (s .args .halfedge .opposite .point) (s .pre .0 .near) (s .args .k) (s .pre .1))
 
 pub finished-at-spec : {M : Type 1} → statement M
 finished-at-spec =

@@ -23,7 +23,7 @@ cast-if1 c = search needs
 finish-edge-requires : tie.Need-finish-edge-requires
 finish-edge-requires c κs =
     let s = c .before .before .before .before .before in
-    record { spanned = s .pre .spanned; room = s .pre .room; begun = s .pre .begun (c .before .if1 .taken) }
+    record { room = s .pre .room; near = s .pre .spanned .opposite-near; begun = s .pre .begun (c .before .if1 .taken) }
 
 same-length : tie.Need-same-length
 same-length c = search needs
