@@ -1,2 +1,3 @@
 pub mod Small
 pub mod Answers
+pub mod CellPlaces

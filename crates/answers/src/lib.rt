@@ -1,1 +1,120 @@
-// The answers as cells of 32 bits, which every number of them fits: definitions and laws alone.
+// The answers of the operations as cells of 32 bits, which any language can lend.
+ghost use mathlib.Core.Path.{_≡_};
+ghost use Prim.Native.Nat.{_<_};
+ghost use mathlib.Core.List.{[]};
+ghost use lib.ListN.{length, getD};
+ghost use Rattle.halfedges.specs.Refusals.{told};
+ghost use Rattle.halfedges.specs.Counts.{counted as Counts·counted};
+ghost use Rattle.halfedges.specs.Corners.{cornered};
+ghost use Rattle.tables.specs.Check.{checked as Check·checked};
+ghost use Rattle.reading.specs.Reading.{reported};
+ghost use Rattle.writing.specs.Writing.{wrote};
+ghost use Rattle.answers.specs.Cells.{cells, lengthCells, levelCells};
+ghost use Rattle.answers.specs.Internal.Fitting.{Fitting, Sevens};
+use halfedges::corners::Corners;
+use halfedges::table::Counted;
+use reading::Reading;
+use tables::check::Checked;
+use writing::Writing;
+
+// Number, place, H, E, F, V and B.
+pub fn of_check(checked: Checked) -> [u32; 7]
+    requires { ⌜ Fitting (cells (Check·checked checked)) ⌝ }
+    ensures { λ r. ⌜ r ≡ cells (Check·checked checked) ⌝ }
+{
+    let told = checked.answer;
+    [
+        told.number() as u32,
+        told.place() as u32,
+        checked.halfedges as u32,
+        checked.edges as u32,
+        checked.triangles as u32,
+        checked.vertices as u32,
+        checked.borders as u32,
+    ]
+}
+
+// Number, place and the three corners.
+pub fn of_corners(corners: Corners) -> [u32; 5]
+    requires { ⌜ Fitting (cells (record { verdict = told (corners .answer); values = [] })) × (length (corners .corners) ≡ 3) ⌝ }
+    ensures { λ r. ⌜ r ≡ cells (cornered corners) ⌝ }
+{
+    let told = corners.answer;
+    let numbers = corners.corners;
+    [
+        told.number() as u32,
+        told.place() as u32,
+        numbers[0],
+        numbers[1],
+        numbers[2],
+    ]
+}
+
+// Number, place, H and V.
+pub fn of_reading(reading: Reading) -> [u32; 4]
+    requires { ⌜ Fitting (cells (reported reading)) ⌝ }
+    ensures { λ r. ⌜ r ≡ cells (reported reading) ⌝ }
+{
+    let told = reading.answer;
+    [
+        told.number() as u32,
+        told.place() as u32,
+        reading.halfedges as u32,
+        reading.vertices as u32,
+    ]
+}
+
+// Number, place and the file's length.
+pub fn of_writing(writing: Writing) -> [u32; 3]
+    requires { ⌜ Fitting (lengthCells (wrote writing)) ⌝ }
+    ensures { λ r. ⌜ r ≡ lengthCells (wrote writing) ⌝ }
+{
+    let told = writing.answer;
+    [
+        told.number() as u32,
+        told.place() as u32,
+        writing.length as u32,
+    ]
+}
+
+// What stands at a place of an answer with counts: number, place, H, E and V of the seven levels, the two rooms.
+fn count_at(counted: Counted, place: usize) -> usize
+    requires { ⌜ Sevens (counted .levels) × (place < 25) ⌝ }
+    ensures { λ r. ⌜ r ≡ getD (levelCells (Counts·counted counted)) place 0 ⌝ }
+{
+    let answer = counted.answer;
+    let levels = counted.levels;
+    if place == 0 {
+        return answer.number();
+    }
+    if place == 1 {
+        return answer.place();
+    }
+    if place < 9 {
+        return levels.halfedges[place - 2];
+    }
+    if place < 16 {
+        return levels.edges[place - 9];
+    }
+    if place < 23 {
+        return levels.vertices[place - 16];
+    }
+    if place == 23 {
+        return levels.halfedge_room;
+    }
+    levels.vertex_room
+}
+
+// Number, place, H, E and V of the seven levels, and the two rooms.
+pub fn of_counts(counted: Counted) -> [u32; 25]
+    requires { ⌜ Sevens (counted .levels) × Fitting (levelCells (Counts·counted counted)) ⌝ }
+    ensures { λ r. ⌜ r ≡ levelCells (Counts·counted counted) ⌝ }
+{
+    let mut numbers = [0; 25];
+    let mut place = 0;
+    while place < 25 {
+        numbers[place] = count_at(counted, place) as u32;
+        place += 1;
+    }
+    numbers
+}

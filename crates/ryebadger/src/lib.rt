@@ -7,13 +7,12 @@ ghost use Rattle.points.specs.Operations.{checkCage, refineCage};
 ghost use Rattle.reading.specs.Reading.{readFile};
 ghost use Rattle.writing.specs.Writing.{writeFile};
 ghost use Rattle.answers.specs.Cells.{cells as Cells·cells, lengthCells, levelCells};
+use answers;
 use halfedges::corners;
 use halfedges::table::HalfedgeTable;
 use reading;
 use refining;
 use writing;
-
-mod cells;
 
 // The cage check 1 to 8.
 #[no_mangle]
@@ -29,7 +28,7 @@ pub extern "C" fn ryebadger_check(
         ≡ Cells·cells (checkCage (tables (now (twin .entry)) (now (vert .entry)) (now (edge .entry))) (now (points .entry))) ⌝ }
 {
     let checked = cage::check_cage(twin, vert, edge, points);
-    *answer = cells::of_check(checked);
+    *answer = answers::of_check(checked);
 }
 
 // The count question.
@@ -51,7 +50,7 @@ pub extern "C" fn ryebadger_counts(
         vertices,
     };
     let counted = table.count(depth);
-    *answer = cells::of_counts(counted);
+    *answer = answers::of_counts(counted);
 }
 
 // Refining: levels 0 to the depth end to end in four lent tables.
@@ -76,7 +75,7 @@ pub extern "C" fn ryebadger_refine(
         × (now (places .exit) ≡ after .points) ⌝ }
 {
     let counted = refining::refine(twin, vert, edge, points, depth, twins, verts, edges, places);
-    *answer = cells::of_counts(counted);
+    *answer = answers::of_counts(counted);
 }
 
 // The corner question.
@@ -85,7 +84,7 @@ pub extern "C" fn ryebadger_corners(vert: &[u32], triangle: usize, answer: &mut 
     ensures { λ _. ⌜ now (answer .exit) ≡ Cells·cells (cornerQuestion (now (vert .entry)) triangle) ⌝ }
 {
     let corners = corners::corner_question(vert, triangle);
-    *answer = cells::of_corners(corners);
+    *answer = answers::of_corners(corners);
 }
 
 // Reading a cage file into four lent tables.
@@ -106,7 +105,7 @@ pub extern "C" fn ryebadger_read(
         × (now (points .exit) ≡ after .points) ⌝ }
 {
     let reading = reading::read(file, twin, vert, edge, points);
-    *answer = cells::of_reading(reading);
+    *answer = answers::of_reading(reading);
 }
 
 // Writing a cage's file into a lent file.
@@ -125,5 +124,5 @@ pub extern "C" fn ryebadger_write(
         ⌜ (now (answer .exit) ≡ lengthCells (after .answer)) × (now (file .exit) ≡ after .file) ⌝ }
 {
     let writing = writing::write(twin, vert, edge, points, file);
-    *answer = cells::of_writing(writing);
+    *answer = answers::of_writing(writing);
 }

@@ -1,16 +1,36 @@
 -- `ryebadger_refine` puts the answer of refining in cells, which it fits, and leaves what that leaves.
 use borrow.Author.Needs.{needs}
-use mathlib.Core.Path.{ap, _∙_}
+use mathlib.Core.Path.{_≡_, ap, _∙_}
+use Rattle.halfedges.specs.Counts.{counted}
+use Rattle.tables.specs.Tables.{tables}
+use Rattle.points.specs.Operations.{Refined, refineCage}
 use Rattle.answers.specs.Cells.{levelCells}
+use Rattle.answers.specs.Internal.Fitting.{Fitting, Sevens}
 use Rattle.answers.proofs.Answers.{refine-fits, levels-told}
 use Rattle.ryebadger.proofs.ryebadger_refine.Statement.{statement}
 use Rattle.ryebadger.proofs.ryebadger_refine.Tie as tie
+
+module _ (r : tie.After-refine) where
+  abbrev s : tie.Start
+  s = r .before .before .before .before .before .before .before .before .before .before .before
+
+  abbrev after : Refined
+  after =
+      refineCage (tables (s .args .twin .now) (s .args .vert .now) (s .args .edge .now)) (s .args .points .now) (s .args .depth)
+      (tables (s .args .twins .now) (s .args .verts .now) (s .args .edges .now))
+      (s .args .places .now)
+
+  fits : Sevens (r .refine .result .levels) × Fitting (levelCells (counted (r .refine .result)))
+  fits = levels-told (r .refine .result) (after .answer) (r .refine .ensures .0) (refine-fits _ _ _ _ _)
+
+  put : levelCells (counted (r .refine .result)) ≡ levelCells (after .answer)
+  put = ap levelCells {y = after .answer} (r .refine .ensures .0)
 
 refine-requires : tie.Need-refine-requires
 refine-requires c κs = search needs
 
 of-counts-requires : tie.Need-of-counts-requires
-of-counts-requires c κs = let r = c .before .before .before .before .before .before .before .refine in levels-told (r .result) _ (r .ensures .0) (refine-fits _ _ _ _ _)
+of-counts-requires c κs = fits (c .before .before .before .before .before .before .before)
 
 same-length : tie.Need-same-length
 same-length c = search needs
@@ -25,7 +45,7 @@ same-length-4 : tie.Need-same-length-4
 same-length-4 c = search needs
 
 returns : tie.Need-returns
-returns c = let r = c .before .before .before .before .before .before .before .before .refine .ensures in (c .of-counts .ensures ∙ ap levelCells (r .0), r .1, r .2)
+returns c = let r = c .before .before .before .before .before .before .before .before in (c .of-counts .ensures ∙ put r, r .refine .ensures .1, r .refine .ensures .2)
 
 pub ryebadger-refine-spec : {M : Type 1} → statement M
 ryebadger-refine-spec =

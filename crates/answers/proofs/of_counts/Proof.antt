@@ -9,11 +9,11 @@ use lib.Seq.{paste, paste-zero}
 use Rattle.laws.specs.Parts.{inFront}
 use Rattle.laws.proofs.InFront.{copied-more, copied-all}
 use Rattle.halfedges.specs.Counts.{counted as Counts·counted}
 use Rattle.answers.specs.Cells.{levelCells}
 use Rattle.answers.proofs.Small.{fitting-at}
-use Rattle.ryebadger.proofs.CellPlaces.{length-cells}
-use Rattle.ryebadger.proofs.cells.of_counts.Statement.{statement}
-use Rattle.ryebadger.proofs.cells.of_counts.Tie as tie
+use Rattle.answers.proofs.CellPlaces.{length-cells}
+use Rattle.answers.proofs.of_counts.Statement.{statement}
+use Rattle.answers.proofs.of_counts.Tie as tie
 
 -- nothing of the zeros is left
 all-of : (xs : List ℕ) → length xs ≡ 25 → inFront xs (replicate 25 0) ≡ xs
@@ -31,14 +31,16 @@ loop-holds c = (paste-zero (replicate 25 0) 0 (levelCells (Counts·counted (c .a
 count-at-requires : tie.Need-count-at-requires Inv-loop μ-loop
 count-at-requires c κs = (c .before .before .pre .0, c .loop-test .taken)
 
-cell-requires : tie.Need-cell-requires Inv-loop μ-loop
-cell-requires c κs = rw (c .count-at .ensures) (fitting-at (levelCells (Counts·counted (c .before .before .before .args .counted))) (c .before .before .loop .place) (c .before .before .before .pre .1))
+cast-numbers : tie.Need-cast-numbers Inv-loop μ-loop
+cast-numbers c =
+    let i = c .before .before in
+    rw (c .count-at .ensures) (record { fits = fitting-at (levelCells (Counts·counted (i .before .args .counted))) (i .loop .place) (i .before .pre .1) })
 
 mul-numbers : tie.Need-mul-numbers Inv-loop μ-loop
 mul-numbers c = search needs
 
 array-write-numbers : tie.Need-array-write-numbers Inv-loop μ-loop
-array-write-numbers c = c .before .before .loop-test .taken
+array-write-numbers c = c .before .loop-test .taken
 
 add-place : tie.Need-add-place Inv-loop μ-loop
 add-place c = search needs
@@ -48,12 +50,11 @@ loop-less c = search needs
 
 loop-again : tie.Need-loop-again Inv-loop μ-loop
 loop-again c =
-    let i = c .before .before .before in
-    let s = i .before in
-    let all = levelCells (Counts·counted (s .args .counted)) in (
-      rw (c .cell .ensures, c .before .count-at .ensures)
+    let i = c .before .before in
+    let s = i .before in (
+      rw (c .count-at .ensures)
           (ap (λ l. set l (i .loop .place) (getD (levelCells (Counts·counted (s .args .counted))) (i .loop .place) 0)) (i .loop .inv .0)
-          ∙ copied-more (levelCells (Counts·counted (s .args .counted))) (replicate 25 0) (i .loop .place) 0 (c .before .before .loop-test .taken) (omega (arith, length-cells (Counts·counted (s .args .counted)) (s .pre .0)))),
+          ∙ copied-more (levelCells (Counts·counted (s .args .counted))) (replicate 25 0) (i .loop .place) 0 (c .before .loop-test .taken) (omega (arith, length-cells (Counts·counted (s .args .counted)) (s .pre .0)))),
       omega arith,
     )
 
@@ -72,7 +73,7 @@ of-counts-spec =
     μ-loop
     loop-holds
     count-at-requires
-    cell-requires
+    cast-numbers
     mul-numbers
     array-write-numbers
     add-place

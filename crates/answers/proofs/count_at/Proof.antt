@@ -3,9 +3,9 @@ use borrow.Author.Needs.{needs}
 use mathlib.Core.Path.{_≡_, sym, _∙_}
 use native.Mathlib.Omega.{arith}
 use Rattle.halfedges.specs.Counts.{counted}
-use Rattle.ryebadger.proofs.CellPlaces.{halfedges-at, edges-at, vertices-at, rooms-at}
-use Rattle.ryebadger.proofs.cells.count_at.Statement.{statement}
-use Rattle.ryebadger.proofs.cells.count_at.Tie as tie
+use Rattle.answers.proofs.CellPlaces.{halfedges-at, edges-at, vertices-at, rooms-at}
+use Rattle.answers.proofs.count_at.Statement.{statement}
+use Rattle.answers.proofs.count_at.Tie as tie
 
 number-requires : tie.Need-number-requires
 number-requires c κs = search needs
