@@ -23,9 +23,11 @@ pub fn of_check(checked: Checked) -> [u32; 7]
     ensures { λ r. ⌜ r ≡ cells (Check·checked checked) ⌝ }
 {
     let told = checked.answer;
+    let number = told.number() as u32;
+    let place = told.place() as u32;
     [
-        told.number() as u32,
-        told.place() as u32,
+        number,
+        place,
         checked.halfedges as u32,
         checked.edges as u32,
         checked.triangles as u32,
@@ -40,41 +42,32 @@ pub fn of_corners(corners: Corners) -> [u32; 5]
     ensures { λ r. ⌜ r ≡ cells (cornered corners) ⌝ }
 {
     let told = corners.answer;
+    let number = told.number() as u32;
+    let place = told.place() as u32;
     let numbers = corners.corners;
-    [
-        told.number() as u32,
-        told.place() as u32,
-        numbers[0],
-        numbers[1],
-        numbers[2],
-    ]
+    [number, place, numbers[0], numbers[1], numbers[2]]
 }
 
 // Number, place, H and V.
-pub fn of_reading(reading: Reading) -> [u32; 4]
-    requires { ⌜ Fitting (cells (reported reading)) ⌝ }
-    ensures { λ r. ⌜ r ≡ cells (reported reading) ⌝ }
+pub fn of_reading(read: Reading) -> [u32; 4]
+    requires { ⌜ Fitting (cells (reported read)) ⌝ }
+    ensures { λ r. ⌜ r ≡ cells (reported read) ⌝ }
 {
-    let told = reading.answer;
-    [
-        told.number() as u32,
-        told.place() as u32,
-        reading.halfedges as u32,
-        reading.vertices as u32,
-    ]
+    let told = read.answer;
+    let number = told.number() as u32;
+    let place = told.place() as u32;
+    [number, place, read.halfedges as u32, read.vertices as u32]
 }
 
 // Number, place and the file's length.
-pub fn of_writing(writing: Writing) -> [u32; 3]
-    requires { ⌜ Fitting (lengthCells (wrote writing)) ⌝ }
-    ensures { λ r. ⌜ r ≡ lengthCells (wrote writing) ⌝ }
+pub fn of_writing(written: Writing) -> [u32; 3]
+    requires { ⌜ Fitting (lengthCells (wrote written)) ⌝ }
+    ensures { λ r. ⌜ r ≡ lengthCells (wrote written) ⌝ }
 {
-    let told = writing.answer;
-    [
-        told.number() as u32,
-        told.place() as u32,
-        writing.length as u32,
-    ]
+    let told = written.answer;
+    let number = told.number() as u32;
+    let place = told.place() as u32;
+    [number, place, written.length as u32]
 }
 
 // What stands at a place of an answer with counts: number, place, H, E and V of the seven levels, the two rooms.

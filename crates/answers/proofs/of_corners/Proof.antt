@@ -7,36 +7,38 @@ use Rattle.answers.proofs.of_corners.Tie as tie
 number-requires : tie.Need-number-requires
 number-requires c κs = search needs
 
-cast-t5 : tie.Need-cast-t5
-cast-t5 c = search needs
+cast-number : tie.Need-cast-number
+cast-number c = search needs
 
 place-requires : tie.Need-place-requires
 place-requires c κs = search needs
 
-cast-t7 : tie.Need-cast-t7
-cast-t7 c = search needs
+cast-place : tie.Need-cast-place
+cast-place c = search needs
 
-array-read-t10 : tie.Need-array-read-t10
-array-read-t10 c = search needs
+array-read-t9 : tie.Need-array-read-t9
+array-read-t9 c = search needs
 
-array-read-t13 : tie.Need-array-read-t13
-array-read-t13 c = search needs
+array-read-t12 : tie.Need-array-read-t12
+array-read-t12 c = search needs
 
-array-read-t16 : tie.Need-array-read-t16
-array-read-t16 c = search needs
+array-read-t15 : tie.Need-array-read-t15
+array-read-t15 c = search needs
 
 returns : tie.Need-returns
-returns c = cc (three (c .before .before .before .args .corners .corners) (c .before .before .before .pre .1), c .place .ensures, c .before .number .ensures)
+returns c =
+    let s = c .before .before .before in
+    cc (three (s .args .corners .corners) (s .pre .1), c .before .place .ensures, c .before .before .number .ensures)
 
 pub of-corners-spec : {M : Type 1} → statement M
 of-corners-spec =
     tie.close
     (tie.spec
     number-requires
-    cast-t5
+    cast-number
     place-requires
-    cast-t7
-    array-read-t10
-    array-read-t13
-    array-read-t16
+    cast-place
+    array-read-t9
+    array-read-t12
+    array-read-t15
     returns)
