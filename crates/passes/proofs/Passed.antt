@@ -22,9 +22,11 @@ use Rattle.points.specs.PointRules.{V2, V3}
 use Rattle.points.specs.NextPoints.{coordinate, spokeEnds, creaseEnds, vertexPoint, newPoint, nextPoints}
 use Rattle.laws.specs.Totals.{total}
 use Rattle.points.specs.Operations.{most-coordinate}
-use Rattle.points.specs.Internal.Relied.{knownCorners, Cornered, Fourfold, borderLeaves, borderEnds, Relied}
+use Rattle.points.specs.Internal.Relied.{knownCorners, Fourfold, borderLeaves, borderEnds, Relied}
 use Rattle.points.specs.Internal.Cells.{value}
-use Rattle.spokes.specs.Internal.Sums.{Laid, clearCell, Cleared, gathered, Settles, settle, SettlesAt}
+use Rattle.spokes.specs.Internal.Sums.{Laid, clearCell, Gathers}
+use Rattle.spokes.specs.Internal.Spokes.{gathered}
+use Rattle.spokes.specs.Internal.Vertices.{Settles, settle, SettlesAt}
 use Rattle.edgepoints.specs.Internal.Edges.{Edged, Started, putEdge}
 use Rattle.passes.specs.Internal.Levels.{Ready, withNext}
 use Rattle.points.proofs.Numerators.{V3-at-most}
@@ -97,8 +99,8 @@ module _ (own : List ℕ) (before : ℕ) (t : HalfedgeTable) (c : Tables) (l : L
   settle-laid = laid-on laid settle-only
 
   -- what the second pass asks
-  pub gathers : Cornered (c .vert) n × (before ≢ 0 → Fourfold before (c .vert)) × Laid n after-clear × Cleared n after-clear
-  gathers = (relied .cornered, ready .fourfold, clear-laid, cleared-all n l (laid .room))
+  pub gathers : Gathers (c .vert) n after-clear × (before ≢ 0 → Fourfold before (c .vert))
+  gathers = (record { cornered = relied .cornered; laid = clear-laid; cleared = cleared-all n l (laid .room) }, ready .fourfold)
 
   held : {to : ℕ} {m : List ℤ} → Only (3 * n) to l m → Holds n points m
   held only = holds-on (le-refl _) (holds-own n l) only
@@ -122,9 +124,9 @@ module _ (own : List ℕ) (before : ℕ) (t : HalfedgeTable) (c : Tables) (l : L
     spoke-sum =
         let e : 3 * n + (3 * v + k) ≡ 3 * n + 3 * v + k = omega arith in
         cond-keeps (λ q. value q (3 * n + 3 * v + k) ≡ spokeSum (c .vert) points k v H) (eqb before 0)
-        (λ _. sum-is (c .vert) n (relied .cornered) after-clear (clear-laid .room) points (held clear-only) (ready .in-range) (gathers .3) v k lv lk H (le-refl _))
+        (λ _. sum-is (c .vert) n (relied .cornered) after-clear (clear-laid .room) points (held clear-only) (ready .in-range) (gathers .0 .cleared) v k lv lk H (le-refl _))
         (λ z. fours-sum (c .vert) n (relied .cornered) before (ready .fourfold (eqb-false before 0 z)) after-clear (clear-laid .room) points (held clear-only) v k lv lk
-        ∙ ap (λ z. z +ℤ spokeSum (c .vert) points k v H) (rw e at (gathers .3 (3 * v + k) (omega arith)))
+        ∙ ap (λ z. z +ℤ spokeSum (c .vert) points k v H) (rw e at (gathers .0 .cleared (3 * v + k) (omega arith)))
         ∙ +ℤ-idl _)
         ∙ sym (spokes-are (c .vert) v points k)
 

@@ -4,8 +4,8 @@ ghost use Rattle.tables.specs.Tables.{tables};
 ghost use Rattle.passes.specs.Internal.Levels.{Ready, withNext};
 use edgepoints::edges::write_edges;
 use halfedges::table::HalfedgeTable;
-use spokes::spokes::clear_sums;
 use spokes::spokes::gather;
+use spokes::sums::clear_sums;
 use spokes::vertices::settle_vertices;
 
 // The next level's points, in a table that starts with the level's own.

@@ -18,13 +18,14 @@ use Rattle.points.specs.NextPoints.{coordinate, far}
 use Rattle.points.specs.Operations.{most-coordinate, InRange}
 use Rattle.points.specs.Internal.Relied.{most-corners, Cornered}
 use Rattle.points.specs.Internal.Cells.{value}
-use Rattle.spokes.specs.Internal.Sums.{Adds, addTriangle, AddsTriangle, spoke, Cleared}
+use Rattle.spokes.specs.Internal.Sums.{Cleared}
+use Rattle.spokes.specs.Internal.Spokes.{Adds, addTriangle, AddsTriangle, spoke}
 use Rattle.halfedges.proofs.Triangle.{next-0, next-1, next-2}
 use Rattle.points.proofs.Ends.{spokeSum, spokes-at-most, corners-counted, far-below}
 use Rattle.laws.proofs.Totals.{scan-more}
 use Rattle.points.proofs.Range.{any-in-range}
 use Rattle.points.proofs.Only.{Only, only-wider, only-steps}
-use Rattle.points.proofs.Holding.{Holds, holds-on}
+use Rattle.points.proofs.Holding.{Holds, holds-on, pointOf-is}
 use Rattle.spokes.proofs.Added.{addPoint-only, addPoint-sum}
 
 module _ (vert : List ℕ) (n : ℕ) (cornered : Cornered vert n) (l : List ℤ) (room : 6 * n ≤ length l) where
@@ -64,13 +65,15 @@ module _ (vert : List ℕ) (n : ℕ) (cornered : Cornered vert n) (l : List ℤ)
           let le : i ≤ length vert = omega arith in
           let c : count i (leaves vert (cell vert i)) + 1 ≤ most-corners = one-more in
           record {
-            in-a = la;
             in-b = lb;
-            room = room-after i le;
-            fits = λ k lk.
-                let s = spokes-at-most vert (cell vert i) points k most-coordinate (λ u. any-in-range points range (3 * u + k)) i in
-                rw (sum-is (cell vert i) k la lk i le, holds-on (omega arith) holds (gathered-only i le) .same (far vert i) k lb lk)
-                (omega (arith, any-in-range points range (3 * far vert i + k)));
+            to = record {
+              below = la;
+              room = room-after i le;
+              fits = λ k lk.
+                  let s = spokes-at-most vert (cell vert i) points k most-coordinate (λ u. any-in-range points range (3 * u + k)) i in
+                  rw (pointOf-is (steps i (spoke vert n) l) (far vert i) k lk, sum-is (cell vert i) k la lk i le, holds-on (omega arith) holds (gathered-only i le) .same (far vert i) k lb lk)
+                  (omega (arith, any-in-range points range (3 * far vert i + k)));
+            };
           }
         where
           one-more : count i (leaves vert (cell vert i)) + 1 ≤ most-corners

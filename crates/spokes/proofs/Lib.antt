@@ -1,6 +1,7 @@
 pub mod Added
 pub mod Cleared
 pub mod Gathered
-pub mod Fours
+pub mod FourAdded
+pub mod Twelve
 pub mod FourSpokes
 pub mod Settled

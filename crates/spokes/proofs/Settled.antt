@@ -14,7 +14,7 @@ use Rattle.halfedges.specs.Cage.{cell}
 use Rattle.points.specs.PointRules.{V3}
 use Rattle.points.specs.Internal.Relied.{knownCorners}
 use Rattle.points.specs.Internal.Cells.{value}
-use Rattle.spokes.specs.Internal.Sums.{settle, SettlesAt}
+use Rattle.spokes.specs.Internal.Vertices.{settle, SettlesAt}
 use Rattle.points.proofs.Only.{Only, only-none, only-on, only-wider, only-set}
 
 -- the corners of a listed vertex, and of another

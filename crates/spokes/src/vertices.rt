@@ -6,7 +6,7 @@ ghost use lib.ListN.{length, set};
 ghost use Rattle.laws.specs.Internal.Steps.{steps};
 ghost use Rattle.points.specs.PointRules.{V3};
 ghost use Rattle.points.specs.Internal.Cells.{value};
-ghost use Rattle.spokes.specs.Internal.Sums.{Settles, settle, SettlesAt};
+ghost use Rattle.spokes.specs.Internal.Vertices.{Settles, settle, SettlesAt};
 use points::rules::added_vertex;
 use points::rules::inner_vertex;
 

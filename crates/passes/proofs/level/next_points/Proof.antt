@@ -8,8 +8,10 @@ use lib.ListN.{length}
 use borrow.Author.Needs.{needs}
 use Rattle.laws.specs.Internal.Steps.{steps}
 use Rattle.tables.specs.Tables.{Tables, tables}
-use Rattle.points.specs.Internal.Relied.{Cornered, Fourfold}
-use Rattle.spokes.specs.Internal.Sums.{Laid, Cleared, gathered, SettlesAt, settle}
+use Rattle.points.specs.Internal.Relied.{Fourfold}
+use Rattle.spokes.specs.Internal.Sums.{Gathers}
+use Rattle.spokes.specs.Internal.Spokes.{gathered}
+use Rattle.spokes.specs.Internal.Vertices.{SettlesAt, settle}
 use Rattle.edgepoints.specs.Internal.Edges.{Edged, Started, putEdge}
 use Rattle.passes.proofs.Passed.{after-clear, after-gather, after-settle, gathers, settles, writes, passed}
 use Rattle.passes.proofs.level.next_points.Statement.{statement}
@@ -52,7 +54,7 @@ gather-requires : tie.Need-gather-requires
 gather-requires c κs =
     let a = c .before .before in
     let s = start a in
-    subst (λ q. Cornered (s .args .vert .now) (n s) × (s .args .before ≢ 0 → Fourfold (s .args .before) (s .args .vert .now)) × Laid (n s) q × Cleared (n s) q) (sym (is-cleared a)) (gathers _ _ _ (c· s) (l s) (s .pre))
+    subst (λ q. Gathers (s .args .vert .now) (n s) q × (s .args .before ≢ 0 → Fourfold (s .args .before) (s .args .vert .now))) (sym (is-cleared a)) (gathers _ _ _ (c· s) (l s) (s .pre))
 
 settle-vertices-requires : tie.Need-settle-vertices-requires
 settle-vertices-requires c κs =

@@ -6,7 +6,7 @@ use lib.ListN.{length}
 use borrow.Author.Needs.{needs}
 use Rattle.laws.specs.Internal.Steps.{steps}
 use Rattle.laws.proofs.Steps.{steps-none, steps-end}
-use Rattle.spokes.specs.Internal.Sums.{spoke, AddsTriangle}
+use Rattle.spokes.specs.Internal.Spokes.{spoke, AddsTriangle}
 use Rattle.points.proofs.Holding.{holds-own}
 use Rattle.spokes.proofs.Gathered.{triangle-adds, triangle-on}
 use Rattle.spokes.proofs.spokes.add_spokes.Statement.{statement}
@@ -34,7 +34,7 @@ add-triangle-requires c κs =
     let h : 3 * b .loop .triangle + 2 < length (s .args .vert .now) = omega arith in
     subst (AddsTriangle n (c .before .corners-of .result)) (sym (b .loop .inv .2))
     (subst (λ t. AddsTriangle n t (steps (3 * b .loop .triangle) (spoke v n) l)) (sym (c .before .corners-of .ensures))
-    (triangle-adds v n (s .pre .0) l (s .pre .1 .room) _ (holds-own n l) (s .pre .1 .in-range) (s .pre .2) (b .loop .triangle) h))
+    (triangle-adds v n (s .pre .cornered) l (s .pre .laid .room) _ (holds-own n l) (s .pre .laid .in-range) (s .pre .cleared) (b .loop .triangle) h))
 
 add-triangle : tie.Need-add-triangle Inv-loop μ-loop
 add-triangle c = search needs
@@ -51,7 +51,7 @@ same-length : tie.Need-same-length Inv-loop μ-loop
 same-length c = search needs
 
 returns : tie.Need-returns Inv-loop μ-loop
-returns c = steps-end _ _ (c .before .loop .inv .2) (omega (arith, c .before .before .before .pre .0 .whole))
+returns c = steps-end _ _ (c .before .loop .inv .2) (omega (arith, c .before .before .before .pre .cornered .whole))
 
 pub add-spokes-spec : {M : Type 1} → statement M
 add-spokes-spec =

@@ -2,7 +2,7 @@
 use mathlib.Core.Path.{sym, ap, _∙_, subst}
 use borrow.Author.Needs.{needs}
 use Rattle.halfedges.specs.Cage.{cell}
-use Rattle.spokes.specs.Internal.Sums.{addPoint, Adds, addTriangle}
+use Rattle.spokes.specs.Internal.Spokes.{addPoint, Adds, addTriangle}
 use Rattle.spokes.proofs.spokes.add_triangle.Statement.{statement}
 use Rattle.spokes.proofs.spokes.add_triangle.Tie as tie
 

@@ -1,7 +1,7 @@
 -- `gather` goes by whether there is a level before.
 use borrow.Author.Needs.{needs}
 use borrow.Author.Tests.{eq-eqb, ne-eqb}
-use Rattle.spokes.specs.Internal.Sums.{gathered}
+use Rattle.spokes.specs.Internal.Spokes.{gathered}
 use Rattle.spokes.proofs.spokes.gather.Statement.{statement}
 use Rattle.spokes.proofs.spokes.gather.Tie as tie
 
@@ -16,7 +16,7 @@ unfolding gathered
 returns c = let b = c .before .before .before in rw (eq-eqb (b .before .before .args .before) 0 (b .if1 .taken)) (c .before .add-spokes .ensures)
 
 add-fours-requires : tie.Need-add-fours-requires
-add-fours-requires c κs = let s = c .before .before .before in (s .pre .0, s .pre .1 (c .before .if1 .left), s .pre .2, s .pre .3)
+add-fours-requires c κs = let s = c .before .before .before in (s .pre .0, s .pre .1 (c .before .if1 .left))
 
 same-length-2 : tie.Need-same-length-2
 same-length-2 c = search needs

@@ -11,7 +11,7 @@ use Rattle.laws.proofs.Steps.{steps-none, steps-on, steps-end}
 use Rattle.halfedges.specs.Cage.{cell}
 use Rattle.points.specs.Internal.Relied.{knownCorners}
 use Rattle.points.specs.Internal.Cells.{value}
-use Rattle.spokes.specs.Internal.Sums.{Settles, settle}
+use Rattle.spokes.specs.Internal.Vertices.{Settles, settle}
 use Rattle.spokes.proofs.Settled.{settles-on, own-known, added-known, settle-is}
 use Rattle.laws.proofs.Steps.{steps-add, steps-on-from}
 use Rattle.spokes.proofs.vertices.settle_vertices.Statement.{statement}

@@ -7,8 +7,8 @@ use borrow.Author.Needs.{needs}
 use Rattle.laws.specs.Internal.Steps.{steps}
 use Rattle.laws.proofs.Steps.{steps-none, steps-more, steps-end}
 use Rattle.spokes.specs.Internal.Sums.{clearCell}
-use Rattle.spokes.proofs.spokes.clear_sums.Statement.{statement}
-use Rattle.spokes.proofs.spokes.clear_sums.Tie as tie
+use Rattle.spokes.proofs.sums.clear_sums.Statement.{statement}
+use Rattle.spokes.proofs.sums.clear_sums.Tie as tie
 
 abbrev Inv-loop : tie.InvT-loop
 Inv-loop points₀ vertices cells i₀ points i = (i ≤ cells) × (length points ≡ length points₀) × (points ≡ steps i (clearCell vertices) points₀)
