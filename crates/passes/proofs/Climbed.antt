@@ -1,7 +1,7 @@
 -- The levels end to end, one more at a time. Assumes nothing.
 --     climb-start, climb-on      where the loop stands at level 0, and at one level more
 --     climb-asks                 each level finds what it asks in its part of the tables
---     climb-small, climb-end     and its counts are small
+--     climb-climbs               and its numbers are small
 use Prim.Native.Nat.{ℕ, zero, suc, _+_, _*_, _/_, _%_, _^_, _≤_, _<_}
 use mathlib.Core.Path.{_≡_, refl, sym, ap, _∙_}
 use mathlib.Core.Logic.{_≢_}
@@ -28,7 +28,8 @@ use Rattle.levels.specs.Refining.{levelsEndToEnd}
 use Rattle.splitting.proofs.Rows.{at-across, at-back, at-middle}
 use Rattle.points.specs.NextPoints.{newPoint, nextPoints, levelPoints}
 use Rattle.points.specs.Internal.Relied.{Fourfold}
-use Rattle.passes.specs.Internal.Levels.{pointsAt, nextEnd, withNext, Ready, tablesAt, cageOf, cageCorners, pointLevels, withLevels, ReadyLevels}
+use Rattle.passes.specs.declared.level.Level.{Level}
+use Rattle.passes.specs.Internal.Levels.{pointsAt, nextEnd, withNext, Ready, tablesAt, withNextAt, ReadyLevel, cageLevel, nextLevel, Climbs, cageOf, cageCorners, pointLevels, withLevels, ReadyLevels}
 use Rattle.points.proofs.Range.{levels-in-range}
 
 -- VERT of a level's next one: the rows of document 01
@@ -64,12 +65,13 @@ abbrev beforeAt : HalfedgeTable → ℕ → ℕ
 beforeAt t zero = 0
 beforeAt t (suc d) = Hs t d
 
--- where the loop stands before level d: its counts, where its halfedges and its points start, and the table so far
-pub record Stands (t : HalfedgeTable) (lent : Tables) (points : List ℤ) (d before : ℕ) (counts : HalfedgeTable) (start at : ℕ) (q : List ℤ) : Type 0 where
-  pub is-before : before ≡ beforeAt t d
-  pub is-counts : counts ≡ countsAt t d
-  pub is-start : start ≡ sum d (Hs t)
-  pub is-at : at ≡ 3 * sum d (Vs t)
+-- the loop stands at level d: which level that is, and the table so far
+pub record Stands (t : HalfedgeTable) (depth : ℕ) (lent : Tables) (points : List ℤ) (d : ℕ) (x : Level) (q : List ℤ) : Type 0 where
+  pub is-left : d + x .left ≡ depth
+  pub is-before : x .before ≡ beforeAt t d
+  pub is-counts : x .counts ≡ countsAt t d
+  pub is-start : x .start ≡ sum d (Hs t)
+  pub is-at : x .at ≡ 3 * sum d (Vs t)
   pub is-table : q ≡ withLevels t d lent points
 
 module _ (t : HalfedgeTable) (depth : ℕ) (lent : Tables) (points : List ℤ) (ready : ReadyLevels t depth lent points) where
@@ -107,9 +109,11 @@ module _ (t : HalfedgeTable) (depth : ℕ) (lent : Tables) (points : List ℤ) (
       length-append (pointLevels t lent points (suc d)) (drop (length (pointLevels t lent points (suc d))) points)
       ∙ omega (arith, length-drop (length (pointLevels t lent points (suc d))) points, levels-long (suc d), room-for (suc d) (omega arith))
 
-  pub climb-start : Stands t lent points 0 0 t 0 0 points
+  pub climb-start : {x : Level} {d : ℕ} → x ≡ cageLevel t depth → d ≡ 0 → Stands t depth lent points d x points
   unfolding withLevels levelPoints countsAt
-  climb-start = record { is-before = refl; is-counts = refl; is-start = refl; is-at = refl; is-table = sym (rw cage-long (take-append-drop (3 * t .vertices) points)) }
+  climb-start e z =
+      rw (e, z)
+      (record { is-left = omega arith; is-before = refl; is-counts = refl; is-start = refl; is-at = refl; is-table = sym (rw cage-long (take-append-drop (3 * t .vertices) points)) })
 
   module _ (d : ℕ) where
     abbrev rest : List ℤ
@@ -209,26 +213,47 @@ module _ (t : HalfedgeTable) (depth : ℕ) (lent : Tables) (points : List ℤ) (
           room = rw (table-long d (omega arith)) (omega (arith, room-for (suc (suc d)) (omega arith)));
         }
 
-    asks : (sum d (Hs t) + Hs t d ≤ length (lent .twin)) × (sum d (Hs t) + Hs t d ≤ length (lent .vert)) × (sum d (Hs t) + Hs t d ≤ length (lent .edge)) × Ready (cageCorners t lent) (beforeAt t d) (countsAt t d) (tablesAt (countsAt t d) (sum d (Hs t)) lent) (3 * sum d (Vs t)) (Q d)
-    asks = (parts-within .0, parts-within .1, parts-within .2, rw parts-are level-ready)
-
   -- the loop's turn at level d
-  module _ {d before start at : ℕ} {counts : HalfedgeTable} {q : List ℤ} (stands : Stands t lent points d before counts start at q) (l : d < depth) where
-    pub climb-asks : (start + counts .halfedges ≤ length (lent .twin)) × (start + counts .halfedges ≤ length (lent .vert)) × (start + counts .halfedges ≤ length (lent .edge)) × Ready (cageCorners t lent) before counts (tablesAt counts start lent) at q
-    climb-asks = rw (stands .is-before, stands .is-counts, stands .is-start, stands .is-at, stands .is-table) (asks d l)
+  module _ {d : ℕ} {x : Level} {q : List ℤ} (stands : Stands t depth lent points d x q) (some : 0 < x .left) where
+    deeper : d < depth
+    deeper = omega (arith, stands .is-left)
 
-    pub climb-small : AtMost (4 ^ most-depth * most-halfedges) counts
-    climb-small = rw (stands .is-counts) (small d l)
+    within : (long : ℕ) → sum d (Hs t) + Hs t d ≤ long → x .start + x .counts .halfedges ≤ long
+    within long b = rw (stands .is-counts, stands .is-start) b
 
-    pub climb-end : at + 3 * counts .vertices ≤ length points
-    climb-end = rw (stands .is-counts, stands .is-at) (omega (arith, room-for (suc d) (omega arith)))
-
-    pub climb-on : {next : HalfedgeTable} {r : List ℤ} → next ≡ finer counts → r ≡ withNext counts (tablesAt counts start lent) at q → Stands t lent points (d + 1) (counts .halfedges) next (start + counts .halfedges) (at + 3 * counts .vertices) r
-    climb-on e f =
+    pub climb-asks : ReadyLevel (cageCorners t lent) x lent q
+    climb-asks =
         record {
+          in-twin = within _ (parts-within d deeper .0);
+          in-vert = within _ (parts-within d deeper .1);
+          in-edge = within _ (parts-within d deeper .2);
+          ready = rw (stands .is-before, stands .is-counts, stands .is-start, stands .is-at, stands .is-table, parts-are d deeper) (level-ready d deeper);
+        }
+
+    climb-small : AtMost (4 ^ most-depth * most-halfedges) (x .counts)
+    climb-small = rw (stands .is-counts) (small d deeper)
+
+    climb-end : x .at + 3 * x .counts .vertices ≤ length points
+    climb-end = rw (stands .is-counts, stands .is-at) (omega (arith, room-for (suc d) (omega (arith, deeper))))
+
+    pub climb-climbs : length (lent .twin) < 2 ^ 64 → length points < 2 ^ 64 → Climbs x
+    climb-climbs long points-long =
+        let c = climb-small in
+        record {
+          some = some;
+          counts = record { halfedges = omega (arith, c .halfedges); edges = omega (arith, c .edges); vertices = omega (arith, c .vertices) };
+          start = omega (arith, climb-asks .in-twin);
+          at = omega (arith, climb-end);
+        }
+
+    pub climb-on : {y : Level} {r : List ℤ} {d' : ℕ} → y ≡ nextLevel x → r ≡ withNextAt x lent q → d' ≡ d + 1 → Stands t depth lent points d' y r
+    climb-on e f z =
+        rw (e, z)
+        (record {
+          is-left = omega (arith, stands .is-left);
           is-before = rw (add-one d) (ap (λ u. u .halfedges) (stands .is-counts));
-          is-counts = e ∙ ap finer (stands .is-counts) ∙ counts-more t d;
+          is-counts = ap finer (stands .is-counts) ∙ counts-more t d;
           is-start = rw (add-one d, stands .is-start, stands .is-counts);
           is-at = rw (add-one d, stands .is-at, stands .is-counts) (omega arith);
-          is-table = f ∙ rw (add-one d, stands .is-counts, stands .is-start, stands .is-at, stands .is-table) (rw (parts-are d l) (next-level d));
-        }
+          is-table = f ∙ rw (add-one d, stands .is-counts, stands .is-start, stands .is-at, stands .is-table) (rw (parts-are d deeper) (next-level d));
+        })

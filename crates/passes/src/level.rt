@@ -1,50 +1,58 @@
-// The points of one level from those of the level before: the four passes.
+// A level among all levels, and the next level's points from its own: the four passes.
 ghost use mathlib.Core.Path.{_≡_};
 ghost use Rattle.tables.specs.Tables.{tables};
-ghost use Rattle.passes.specs.Internal.Levels.{Ready, withNext};
+ghost use Rattle.passes.specs.Internal.Levels.{Ready, withNext, nextLevel, Climbs};
 use edgepoints::edges::write_edges;
 use halfedges::table::HalfedgeTable;
 use spokes::spokes::gather;
 use spokes::sums::clear_sums;
 use spokes::vertices::settle_vertices;
 
-// The next level's points, in a table that starts with the level's own.
-fn next_points(
-    own: &[u32],
-    before: usize,
-    table: HalfedgeTable,
-    twin: &[u32],
-    vert: &[u32],
-    edge: &[u32],
-    points: &mut [i32],
-)
-    requires { ⌜ Ready (now own) before table (tables (now twin) (now vert) (now edge)) 0 (now points) ⌝ }
-    ensures { λ _.
-        ⌜ now (points .exit) ≡ withNext table (tables (now (twin .entry)) (now (vert .entry)) (now (edge .entry))) 0
-        (now (points .entry)) ⌝ }
-{
-    let vertices = table.vertices;
-    clear_sums(&mut *points, vertices);
-    gather(vert, &mut *points, vertices, before);
-    settle_vertices(own, &mut *points, vertices);
-    write_edges(twin, vert, edge, &mut *points, vertices);
+// A level: how many come after it, its counts, how many halfedges the level before has, which is 0 for the cage, and where its
+// halfedges and its points start in the lent tables.
+pub struct Level {
+    pub left: usize,
+    pub counts: HalfedgeTable,
+    pub before: usize,
+    pub start: usize,
+    pub at: usize,
 }
 
-// The next level's points, in a table where the level's own start at a cell.
-pub fn next_level(
+impl Level {
+    // The next level.
+    pub fn next(self) -> Level
+        requires { ⌜ Climbs self ⌝ }
+        ensures { λ r. ⌜ r ≡ nextLevel self ⌝ }
+    {
+        let counts = self.counts;
+        let finer = counts.finer();
+        Level {
+            left: self.left - 1,
+            counts: finer,
+            before: counts.halfedges,
+            start: self.start + counts.halfedges,
+            at: self.at + 3 * counts.vertices,
+        }
+    }
+}
+
+// The next level's points, in a table that starts with the level's own.
+pub fn next_points(
     own: &[u32],
-    before: usize,
-    table: HalfedgeTable,
+    level: Level,
     twin: &[u32],
     vert: &[u32],
     edge: &[u32],
     points: &mut [i32],
-    at: usize,
 )
-    requires { ⌜ Ready (now own) before table (tables (now twin) (now vert) (now edge)) at (now points) ⌝ }
+    requires { ⌜ Ready (now own) (level .before) (level .counts) (tables (now twin) (now vert) (now edge)) 0 (now points) ⌝ }
     ensures { λ _.
-        ⌜ now (points .exit) ≡ withNext table (tables (now (twin .entry)) (now (vert .entry)) (now (edge .entry))) at
+        ⌜ now (points .exit) ≡ withNext (level .counts) (tables (now (twin .entry)) (now (vert .entry)) (now (edge .entry))) 0
         (now (points .entry)) ⌝ }
 {
-    next_points(own, before, table, twin, vert, edge, &mut points[at..]);
+    let vertices = level.counts.vertices;
+    clear_sums(&mut *points, vertices);
+    gather(vert, &mut *points, vertices, level.before);
+    settle_vertices(own, &mut *points, vertices);
+    write_edges(twin, vert, edge, &mut *points, vertices);
 }

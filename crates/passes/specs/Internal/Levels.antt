@@ -1,5 +1,5 @@
 -- The points in the lent table: the next level's come straight after a level's, and so all levels stand end to end.
-use Prim.Native.Nat.{ℕ, suc, _+_, _*_, _≤_, _<_}
+use Prim.Native.Nat.{ℕ, suc, _+_, _-_, _*_, _^_, _≤_, _<_}
 use mathlib.Core.Path.{_≡_}
 use mathlib.Core.Logic.{_≢_}
 use mathlib.Core.List.{List, _++_}
@@ -9,13 +9,14 @@ use Rattle.halfedges.specs.declared.table.HalfedgeTable.{HalfedgeTable}
 use Rattle.laws.specs.Below.{tabulate, endToEnd}
 use Rattle.halfedges.specs.Cage.{marker, most-halfedges, most-depth}
 use Rattle.halfedges.specs.Internal.Counts.{AtMost}
-use Rattle.halfedges.specs.Counts.{countsAt, roomV}
+use Rattle.halfedges.specs.Counts.{finer, countsAt, roomV}
 use Rattle.tables.specs.Tables.{Tables, tables}
 use Rattle.splitting.specs.NextLevel.{level}
 use Rattle.levels.specs.Refining.{levelsEndToEnd}
 use Rattle.points.specs.NextPoints.{corners, nextPoints, levelPoints}
 use Rattle.points.specs.Internal.Relied.{Relied, Known, Fourfold}
 use Rattle.points.specs.Operations.{InRange}
+use Rattle.passes.specs.declared.level.Level.{Level}
 
 -- the points of a level with counts t that start at cell `at`
 abbrev pub pointsAt : HalfedgeTable → ℕ → List ℤ → List ℤ
@@ -50,6 +51,38 @@ tablesAt t start lent =
     (take (t .halfedges) (drop start (lent .vert)))
     (take (t .halfedges) (drop start (lent .edge)))
 
+-- a level's next one, of those that stand in the lent tables
+abbrev pub withNextAt : Level → Tables → List ℤ → List ℤ
+withNextAt x lent points = withNext (x .counts) (tablesAt (x .counts) (x .start) lent) (x .at) points
+
+-- what that takes: the level's halfedges lie in each table
+pub record ReadyLevel (own : List ℕ) (x : Level) (lent : Tables) (points : List ℤ) : Type 0 where
+  pub in-twin : x .start + x .counts .halfedges ≤ length (lent .twin)
+  pub in-vert : x .start + x .counts .halfedges ≤ length (lent .vert)
+  pub in-edge : x .start + x .counts .halfedges ≤ length (lent .edge)
+  pub ready : Ready own (x .before) (x .counts) (tablesAt (x .counts) (x .start) lent) (x .at) points
+
+-- the cage, with so many levels after it
+abbrev pub cageLevel : HalfedgeTable → ℕ → Level
+cageLevel t depth = record { left = depth; counts = t; before = 0; start = 0; at = 0 }
+
+-- the level after one, and that its numbers do not wrap
+abbrev pub nextLevel : Level → Level
+nextLevel x =
+    record {
+      left = x .left - 1;
+      counts = finer (x .counts);
+      before = x .counts .halfedges;
+      start = x .start + x .counts .halfedges;
+      at = x .at + 3 * x .counts .vertices;
+    }
+
+pub record Climbs (x : Level) : Type 0 where
+  pub some : 0 < x .left
+  pub counts : AtMost (2 ^ 60) (x .counts)
+  pub start : x .start + x .counts .halfedges < 2 ^ 64
+  pub at : x .at + 3 * x .counts .vertices < 2 ^ 64
+
 -- "level 0 is the cage"
 abbrev pub cageOf : HalfedgeTable → Tables → Tables
 cageOf t lent = tablesAt t 0 lent
@@ -76,6 +109,13 @@ pub record ReadyLevels (t : HalfedgeTable) (depth : ℕ) (lent : Tables) (points
   pub edges : StartsWith (levelsEndToEnd t (cageOf t lent) depth .edge) (lent .edge)
   pub relied : (d : ℕ) → d < depth → Relied (countsAt t d) (level t (cageOf t lent) d)
   pub known :
-      (d : ℕ) → d < depth → Known (cageCorners t lent) (level t (cageOf t lent) d .twin) (level t (cageOf t lent) d .vert) (countsAt t d .vertices)
+      (d : ℕ) → d < depth
+      → Known (cageCorners t lent) (level t (cageOf t lent) d .twin) (level t (cageOf t lent) d .vert) (countsAt t d .vertices)
   pub in-range : InRange (take (3 * t .vertices) points)
   pub room : 3 * roomV t depth ≤ length points
+
+-- and of a level that is the cage, whose vertices' corners are listed
+pub record ReadyCage (own : List ℕ) (x : Level) (lent : Tables) (points : List ℤ) : Type 0 where
+  pub first : x ≡ cageLevel (x .counts) (x .left)
+  pub ready : ReadyLevels (x .counts) (x .left) lent points
+  pub listed : own ≡ cageCorners (x .counts) lent

@@ -22,7 +22,7 @@ module _ (s : tie.Start) where
   own = s .args .own .now
 
   abbrev n : ℕ
-  n = s .args .table .vertices
+  n = s .args .level .counts .vertices
 
   abbrev c· : Tables
   c· = tables (s .args .twin .now) (s .args .vert .now) (s .args .edge .now)
@@ -34,15 +34,15 @@ module _ (s : tie.Start) where
 abbrev start : tie.After-clear-sums → tie.Start
 start a = a .before .before .before .before .before .before
 
-is-cleared : (a : tie.After-clear-sums) → a .clear-sums .last .0 ≡ after-clear (own (start a)) (start a .args .before) (start a .args .table) (c· (start a)) (l (start a)) (start a .pre)
+is-cleared : (a : tie.After-clear-sums) → a .clear-sums .last .0 ≡ after-clear (own (start a)) (start a .args .level .before) (start a .args .level .counts) (c· (start a)) (l (start a)) (start a .pre)
 is-cleared a = a .clear-sums .ensures
 
-is-gathered : (a : tie.After-gather) → let s = start (a .before .before .before) in a .gather .last .1 .0 ≡ after-gather (own s) (s .args .before) (s .args .table) (c· s) (l s) (s .pre)
+is-gathered : (a : tie.After-gather) → let s = start (a .before .before .before) in a .gather .last .1 .0 ≡ after-gather (own s) (s .args .level .before) (s .args .level .counts) (c· s) (l s) (s .pre)
 is-gathered a =
     let s = start (a .before .before .before) in
-    a .gather .ensures ∙ ap (gathered (s .args .vert .now) (n s) (s .args .before)) (is-cleared (a .before .before .before))
+    a .gather .ensures ∙ ap (gathered (s .args .vert .now) (n s) (s .args .level .before)) (is-cleared (a .before .before .before))
 
-is-settled : (a : tie.After-settle-vertices) → let s = start (a .before .before .before .before .before .before) in a .settle-vertices .last .1 .0 ≡ after-settle (own s) (s .args .before) (s .args .table) (c· s) (l s) (s .pre)
+is-settled : (a : tie.After-settle-vertices) → let s = start (a .before .before .before .before .before .before) in a .settle-vertices .last .1 .0 ≡ after-settle (own s) (s .args .level .before) (s .args .level .counts) (c· s) (l s) (s .pre)
 is-settled a =
     let s = start (a .before .before .before .before .before .before) in
     a .settle-vertices .ensures ∙ ap (steps (3 * n s) (settle (own s) (n s))) (is-gathered (a .before .before .before))
@@ -54,7 +54,7 @@ gather-requires : tie.Need-gather-requires
 gather-requires c κs =
     let a = c .before .before in
     let s = start a in
-    subst (λ q. Gathers (s .args .vert .now) (n s) q × (s .args .before ≢ 0 → Fourfold (s .args .before) (s .args .vert .now))) (sym (is-cleared a)) (gathers _ _ _ (c· s) (l s) (s .pre))
+    subst (λ q. Gathers (s .args .vert .now) (n s) q × (s .args .level .before ≢ 0 → Fourfold (s .args .level .before) (s .args .vert .now))) (sym (is-cleared a)) (gathers _ _ _ (c· s) (l s) (s .pre))
 
 settle-vertices-requires : tie.Need-settle-vertices-requires
 settle-vertices-requires c κs =

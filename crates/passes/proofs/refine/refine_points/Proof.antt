@@ -1,6 +1,6 @@
 -- `refine_points` lists the corners of the cage's vertices by a tally of the cage's VERT.
 use Prim.Native.Nat.{_≤_}
-use mathlib.Core.Path.{sym}
+use mathlib.Core.Path.{refl, sym}
 use lib.ListN.{length, take, getD-replicate}
 use lib.Seq.{length-take-le}
 use borrow.Author.Needs.{needs}
@@ -30,13 +30,13 @@ count-numbers-requires c κs =
 array-share-prefix-corners : tie.Need-array-share-prefix-corners
 array-share-prefix-corners c = search needs
 
-slice-aggregate-refine-levels : tie.Need-slice-aggregate-refine-levels
-slice-aggregate-refine-levels c = let k = c .before .before in sym (length-take-le (s k .args .table .vertices) (k .count-numbers .last .1 .0) (enough k))
+slice-aggregate-climb : tie.Need-slice-aggregate-climb
+slice-aggregate-climb c = let k = c .before .before in sym (length-take-le (s k .args .table .vertices) (k .count-numbers .last .1 .0) (enough k))
 
-refine-levels-requires : tie.Need-refine-levels-requires
-refine-levels-requires c κs =
+climb-requires : tie.Need-climb-requires
+climb-requires c κs =
     let k = c .before .before .before in
-    (s k .pre, tally-lists (take (s k .args .table .halfedges) (s k .args .vert .now)) (s k .args .table .vertices) (k .count-numbers .last .1 .0) (enough k) (k .count-numbers .ensures))
+    record { first = refl; ready = s k .pre; listed = tally-lists (take (s k .args .table .halfedges) (s k .args .vert .now)) (s k .args .table .vertices) (k .count-numbers .last .1 .0) (enough k) (k .count-numbers .ensures) }
 
 same-length : tie.Need-same-length
 same-length c = search needs
@@ -52,7 +52,7 @@ refine-points-spec =
     slice-aggregate-count-numbers-2
     count-numbers-requires
     array-share-prefix-corners
-    slice-aggregate-refine-levels
-    refine-levels-requires
+    slice-aggregate-climb
+    climb-requires
     same-length
     returns)
