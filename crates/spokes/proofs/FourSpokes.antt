@@ -68,7 +68,7 @@ module _ (vert : List ℕ) (n : ℕ) (cornered : Cornered vert n) (before : ℕ)
           let M = isum (3 * i) (λ j. bring (3 * before + j)) in
           let N = isum 9 (λ j. bring (9 * i + j)) in
           let K = isum 3 (λ j. bring (3 * before + (3 * i + j))) in
-          addFour-sum n m (rw (only .long) room) points (holds-on (le-refl _) holds only) x k lk (fourOf vert i) (inside i b)
+          addFour-sum n m (fourOf vert i) (inside i b) (rw (only .long) room) points (holds-on (le-refl _) holds only) x k lk
           ∙ added-total (value m cell-of) (twelve-spokes vert before four points x k i b)
           ∙ ap₂ _+ℤ_ (fours-step i (omega arith)) (sym (group vert before four points x k i b))
           ∙ +ℤ-assoc (value l cell-of) (S +ℤ M) (N +ℤ K)

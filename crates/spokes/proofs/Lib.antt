@@ -1,6 +1,7 @@
 pub mod Added
 pub mod Cleared
 pub mod Gathered
+pub mod CornerAdded
 pub mod FourAdded
 pub mod Twelve
 pub mod FourSpokes

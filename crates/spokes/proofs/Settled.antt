@@ -1,4 +1,4 @@
--- What the pass over the vertices leaves: `settled-only`, `settled-is`; each cell is as the pass found it, `settles-on`. A
+-- What the pass over the vertices leaves: `settled-only`, `settled-is`; what a cell's turn asks, `settles-on`. A
 -- vertex's known corners: `own-known`, `added-known`, and a cell's turn with them, `settle-is`. Assumes nothing.
 use Prim.Native.Nat.{ℕ, zero, suc, _+_, _*_, _/_, _≤_, _<_}
 use mathlib.Core.Path.{_≡_, refl, sym, ap, ap₂, _∙_}
@@ -14,7 +14,7 @@ use Rattle.halfedges.specs.Cage.{cell}
 use Rattle.points.specs.PointRules.{V3}
 use Rattle.points.specs.Internal.Relied.{knownCorners}
 use Rattle.points.specs.Internal.Cells.{value}
-use Rattle.spokes.specs.Internal.Vertices.{settle, SettlesAt}
+use Rattle.spokes.specs.Internal.Vertices.{settle, Settles, SettlesAt}
 use Rattle.points.proofs.Only.{Only, only-none, only-on, only-wider, only-set}
 
 -- the corners of a listed vertex, and of another
@@ -50,8 +50,9 @@ module _ (own : List ℕ) (n : ℕ) (l : List ℤ) (room : 6 * n ≤ length l) w
       let only = settled-only i (omega arith) in
       (only .other i (λ p q. omega arith), only .other (3 * n + i) (λ p q. omega arith))
 
-  pub settles-on : (i : ℕ) → i < 3 * n → SettlesAt own n i l → SettlesAt own n i (steps i (settle own n) l)
-  settles-on i b s = let u = untouched i b in rw (u .0, u .1) s
+  -- what a cell's turn asks, with corners that the vertex is known to have
+  pub settles-on : (i : ℕ) → i < 3 * n → SettlesAt own n i l → {corners : ℕ} {y : List ℤ} → knownCorners own (i / 3) ≡ corners → y ≡ steps i (settle own n) l → Settles corners (value y i) (value y (3 * n + i))
+  settles-on i b s known e = let u = untouched i b in rw (← known, e, u .0, u .1) s
 
   pub settled-is : (j i : ℕ) → i ≤ 3 * n → j < i → value (steps i (settle own n) l) (3 * n + j) ≡ made j l
   unfolding steps settle

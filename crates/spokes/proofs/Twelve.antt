@@ -5,7 +5,6 @@ use mathlib.Core.Path.{_≡_, refl, sym, ap, ap₂, _∙_}
 use mathlib.Core.Bool.{cond}
 use mathlib.Core.List.{List, [], _∷_}
 use native.Mathlib.Omega.{arith}
-use lib.Dec.{eqb}
 use lib.IntN.{ℤ, pos, _+ℤ_, +ℤ-idl}
 use Rattle.laws.specs.Totals.{total}
 use Rattle.laws.proofs.Totals.{total-append, isum, added-total, take-out}
@@ -15,6 +14,7 @@ use Rattle.tables.specs.Tables.{leaves}
 use Rattle.points.specs.NextPoints.{coordinate, far}
 use Rattle.points.specs.Internal.Relied.{Fourfold}
 use Rattle.spokes.specs.Internal.Fours.{fourOf}
+use Rattle.spokes.proofs.CornerAdded.{brings}
 
 -- the twelve, as the code and as the tables have them
 twelve : (a b c d e f g h i j k l : ℤ) → total (a ∷ c ∷ j ∷ h ∷ d ∷ f ∷ k ∷ b ∷ g ∷ i ∷ l ∷ e ∷ []) ≡ total (a ∷ b ∷ c ∷ d ∷ e ∷ f ∷ g ∷ h ∷ i ∷ j ∷ k ∷ l ∷ [])
@@ -34,17 +34,17 @@ twelve a b c d e f g h i j k l =
 
 module _ (vert : List ℕ) (before : ℕ) (four : Fourfold before vert) (points : List ℤ) (x k : ℕ) where
   -- what a spoke from y to z brings to vertex x, and what halfedge h does
-  abbrev brings : ℕ → ℕ → ℤ
-  brings y z = cond (eqb y x) (coordinate points k z) (pos 0)
+  abbrev to : ℕ → ℕ → ℤ
+  to = brings points x k
 
   abbrev pub brought : ℕ → ℤ
   brought h = cond (leaves vert x h) (coordinate points k (far vert h)) (pos 0)
 
-  term : (h : ℕ) {i y z : ℕ} → i ≡ h → cell vert h ≡ y → far vert h ≡ z → brought i ≡ brings y z
-  term h q f e = ap brought q ∙ ap₂ brings f e
+  term : (h : ℕ) {i y z : ℕ} → i ≡ h → cell vert h ≡ y → far vert h ≡ z → brought i ≡ to y z
+  term h q f e = ap brought q ∙ ap₂ to f e
 
   -- the halfedges of a triangle with corners y, z, w
-  three-of : (q : ℕ) {h i j y z w : ℕ} → h ≡ 3 * q → i ≡ 3 * q + 1 → j ≡ 3 * q + 2 → cell vert (3 * q) ≡ y → cell vert (3 * q + 1) ≡ z → cell vert (3 * q + 2) ≡ w → (brought h ≡ brings y z) × (brought i ≡ brings z w) × (brought j ≡ brings w y)
+  three-of : (q : ℕ) {h i j y z w : ℕ} → h ≡ 3 * q → i ≡ 3 * q + 1 → j ≡ 3 * q + 2 → cell vert (3 * q) ≡ y → cell vert (3 * q + 1) ≡ z → cell vert (3 * q + 2) ≡ w → (brought h ≡ to y z) × (brought i ≡ to z w) × (brought j ≡ to w y)
   three-of q eh ei ej ey ez ew = (
     term (3 * q) eh ey (ap (cell vert) (next-0 q) ∙ ez),
     term (3 * q + 1) ei ez (ap (cell vert) (next-1 q) ∙ ew),
@@ -52,7 +52,7 @@ module _ (vert : List ℕ) (before : ℕ) (four : Fourfold before vert) (points 
   )
 
   -- the middle triangle's halfedge that runs back along one
-  middle-of : (h : ℕ) {i y z : ℕ} → h < before → i ≡ 3 * before + h → cell vert (3 * h + 2) ≡ y → cell vert (3 * h + 1) ≡ z → brought i ≡ brings y z
+  middle-of : (h : ℕ) {i y z : ℕ} → h < before → i ≡ 3 * before + h → cell vert (3 * h + 2) ≡ y → cell vert (3 * h + 1) ≡ z → brought i ≡ to y z
   middle-of h l e f d = term (3 * before + h) e (four .from h l ∙ f) (four .end h l ∙ d)
 
   -- the third corner of a corner triangle
@@ -93,48 +93,48 @@ module _ (vert : List ℕ) (before : ℕ) (four : Fourfold before vert) (points 
     abbrev c : ℕ
     c = fourOf vert g .c
 
-    nine : isum 9 (λ j. brought (9 * g + j)) ≡ total (brings u a ∷ brings a c ∷ brings c u ∷ brings v b ∷ brings b a ∷ brings a v ∷ brings w c ∷ brings c b ∷ brings b w ∷ [])
+    nine : isum 9 (λ j. brought (9 * g + j)) ≡ total (to u a ∷ to a c ∷ to c u ∷ to v b ∷ to b a ∷ to a v ∷ to w c ∷ to c b ∷ to b w ∷ [])
     nine =
         added-total (pos 0) (brought (9 * g + 0) ∷ brought (9 * g + 1) ∷ brought (9 * g + 2) ∷ brought (9 * g + 3) ∷ brought (9 * g + 4) ∷ brought (9 * g + 5) ∷ brought (9 * g + 6) ∷ brought (9 * g + 7) ∷ brought (9 * g + 8) ∷ [])
         ∙ +ℤ-idl _
         ∙ same
       where
-        one : (brought (9 * g + 0) ≡ brings u a) × (brought (9 * g + 1) ≡ brings a c) × (brought (9 * g + 2) ≡ brings c u)
+        one : (brought (9 * g + 0) ≡ to u a) × (brought (9 * g + 1) ≡ to a c) × (brought (9 * g + 2) ≡ to c u)
         one = three-of (3 * g) (omega arith) (omega arith) (omega arith) (at (omega arith)) (at (omega arith)) at-c
 
-        two : (brought (9 * g + 3) ≡ brings v b) × (brought (9 * g + 4) ≡ brings b a) × (brought (9 * g + 5) ≡ brings a v)
+        two : (brought (9 * g + 3) ≡ to v b) × (brought (9 * g + 4) ≡ to b a) × (brought (9 * g + 5) ≡ to a v)
         two = three-of (3 * g + 1) (omega arith) (omega arith) (omega arith) (at (omega arith)) (at (omega arith)) at-a
 
-        last : (brought (9 * g + 6) ≡ brings w c) × (brought (9 * g + 7) ≡ brings c b) × (brought (9 * g + 8) ≡ brings b w)
+        last : (brought (9 * g + 6) ≡ to w c) × (brought (9 * g + 7) ≡ to c b) × (brought (9 * g + 8) ≡ to b w)
         last = three-of (3 * g + 2) (omega arith) (omega arith) (omega arith) (at (omega arith)) (at (omega arith)) at-b
 
-        same : total (brought (9 * g + 0) ∷ brought (9 * g + 1) ∷ brought (9 * g + 2) ∷ brought (9 * g + 3) ∷ brought (9 * g + 4) ∷ brought (9 * g + 5) ∷ brought (9 * g + 6) ∷ brought (9 * g + 7) ∷ brought (9 * g + 8) ∷ []) ≡ total (brings u a ∷ brings a c ∷ brings c u ∷ brings v b ∷ brings b a ∷ brings a v ∷ brings w c ∷ brings c b ∷ brings b w ∷ [])
+        same : total (brought (9 * g + 0) ∷ brought (9 * g + 1) ∷ brought (9 * g + 2) ∷ brought (9 * g + 3) ∷ brought (9 * g + 4) ∷ brought (9 * g + 5) ∷ brought (9 * g + 6) ∷ brought (9 * g + 7) ∷ brought (9 * g + 8) ∷ []) ≡ total (to u a ∷ to a c ∷ to c u ∷ to v b ∷ to b a ∷ to a v ∷ to w c ∷ to c b ∷ to b w ∷ [])
         same = cc (one .0, one .1, one .2, two .0, two .1, two .2, last .0, last .1, last .2)
 
-    middle : isum 3 (λ j. brought (3 * before + (3 * g + j))) ≡ total (brings c a ∷ brings a b ∷ brings b c ∷ [])
+    middle : isum 3 (λ j. brought (3 * before + (3 * g + j))) ≡ total (to c a ∷ to a b ∷ to b c ∷ [])
     middle =
         added-total (pos 0) (brought (3 * before + (3 * g + 0)) ∷ brought (3 * before + (3 * g + 1)) ∷ brought (3 * before + (3 * g + 2)) ∷ [])
         ∙ +ℤ-idl _
         ∙ same
       where
-        one : brought (3 * before + (3 * g + 0)) ≡ brings c a
+        one : brought (3 * before + (3 * g + 0)) ≡ to c a
         one = middle-of (3 * g) (omega (arith, inside)) (omega arith) at-c (at (omega arith))
 
-        two : brought (3 * before + (3 * g + 1)) ≡ brings a b
+        two : brought (3 * before + (3 * g + 1)) ≡ to a b
         two = middle-of (3 * g + 1) (omega (arith, inside)) refl at-a (at (omega arith))
 
-        last : brought (3 * before + (3 * g + 2)) ≡ brings b c
+        last : brought (3 * before + (3 * g + 2)) ≡ to b c
         last = middle-of (3 * g + 2) inside refl at-b (at (omega arith))
 
-        same : total (brought (3 * before + (3 * g + 0)) ∷ brought (3 * before + (3 * g + 1)) ∷ brought (3 * before + (3 * g + 2)) ∷ []) ≡ total (brings c a ∷ brings a b ∷ brings b c ∷ [])
+        same : total (brought (3 * before + (3 * g + 0)) ∷ brought (3 * before + (3 * g + 1)) ∷ brought (3 * before + (3 * g + 2)) ∷ []) ≡ total (to c a ∷ to a b ∷ to b c ∷ [])
         same = cc (one, two, last)
 
     -- all twelve, in the code's order
     abbrev pub twelve-spokes : List ℤ
-    twelve-spokes = brings u a ∷ brings c u ∷ brings c a ∷ brings c b ∷ brings v b ∷ brings a v ∷ brings a b ∷ brings a c ∷ brings w c ∷ brings b w ∷ brings b c ∷ brings b a ∷ []
+    twelve-spokes = to u a ∷ to c u ∷ to c a ∷ to c b ∷ to v b ∷ to a v ∷ to a b ∷ to a c ∷ to w c ∷ to b w ∷ to b c ∷ to b a ∷ []
 
     pub group : isum 9 (λ j. brought (9 * g + j)) +ℤ isum 3 (λ j. brought (3 * before + (3 * g + j))) ≡ total twelve-spokes
     group =
         ap₂ _+ℤ_ nine middle
-        ∙ sym (total-append (brings u a ∷ brings a c ∷ brings c u ∷ brings v b ∷ brings b a ∷ brings a v ∷ brings w c ∷ brings c b ∷ brings b w ∷ []) (brings c a ∷ brings a b ∷ brings b c ∷ []))
-        ∙ sym (twelve (brings u a) (brings a c) (brings c u) (brings v b) (brings b a) (brings a v) (brings w c) (brings c b) (brings b w) (brings c a) (brings a b) (brings b c))
+        ∙ sym (total-append (to u a ∷ to a c ∷ to c u ∷ to v b ∷ to b a ∷ to a v ∷ to w c ∷ to c b ∷ to b w ∷ []) (to c a ∷ to a b ∷ to b c ∷ []))
+        ∙ sym (twelve (to u a) (to a c) (to c u) (to v b) (to b a) (to a v) (to w c) (to c b) (to b w) (to c a) (to a b) (to b c))

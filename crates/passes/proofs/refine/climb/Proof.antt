@@ -1,10 +1,10 @@
 -- `climb` adds one level a turn; where the loop stands is told by how many levels are left.
-use Prim.Native.Nat.{_+_, _-_, _^_, _≤_, _<_}
+use Prim.Native.Nat.{_-_, _≤_}
 use mathlib.Core.Path.{_≡_, refl, ap, _∙_}
 use native.Mathlib.Omega.{arith}
 use lib.ListN.{length}
 use borrow.Author.Needs.{needs}
-use Rattle.tables.specs.Tables.{Tables, tables}
+use Rattle.tables.specs.Tables.{tables}
 use Rattle.passes.specs.Internal.Levels.{withLevels}
 use Rattle.passes.proofs.Climbed.{Stands, climb-start, climb-asks, climb-climbs, climb-on}
 use Rattle.passes.proofs.refine.climb.Statement.{statement}

@@ -1,13 +1,13 @@
 -- `add_corner` adds two points, the second to what the first left.
 use Prim.Native.Nat.{_+_, _*_}
-use mathlib.Core.Path.{sym, ap, ap₂, _∙_}
+use mathlib.Core.Path.{ap₂, _∙_}
 use native.Mathlib.Omega.{arith}
 use borrow.Author.Needs.{needs}
 use Rattle.points.specs.Operations.{most-coordinate}
 use Rattle.points.specs.Internal.Relied.{most-corners}
 use Rattle.spokes.specs.Internal.Sums.{addTo}
 use Rattle.spokes.specs.Internal.Fours.{addCorner}
-use Rattle.spokes.proofs.FourAdded.{adds-within, adds-second}
+use Rattle.spokes.proofs.CornerAdded.{adds-within, adds-second}
 use Rattle.spokes.proofs.fours.add_corner.Statement.{statement}
 use Rattle.spokes.proofs.fours.add_corner.Tie as tie
 

@@ -7,7 +7,8 @@ use borrow.Author.Needs.{needs}
 use Rattle.points.specs.Internal.Cells.{pointOf}
 use Rattle.spokes.specs.declared.fours.Four.{Four}
 use Rattle.spokes.specs.Internal.Fours.{addFour}
-use Rattle.spokes.proofs.FourAdded.{one, two, corner-on, adds-u, adds-v, adds-w}
+use Rattle.spokes.proofs.CornerAdded.{corner-on}
+use Rattle.spokes.proofs.FourAdded.{one, two, adds-u, adds-v, adds-w}
 use Rattle.spokes.proofs.fours.add_four.Statement.{statement}
 use Rattle.spokes.proofs.fours.add_four.Tie as tie
 

@@ -1,5 +1,5 @@
 -- `add_fours` takes one step of its definition a turn, of a triangle of the level before; the sums so far leave room for it.
-use Prim.Native.Nat.{_+_, _-_, _*_, _≤_, _<_}
+use Prim.Native.Nat.{_-_, _≤_}
 use mathlib.Core.Path.{_≡_, refl, sym, ap, _∙_, subst}
 use native.Mathlib.Omega.{arith}
 use lib.ListN.{length}

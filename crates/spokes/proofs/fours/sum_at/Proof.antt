@@ -9,8 +9,7 @@ use mir.Facts.{toZ-ofZ}
 use Rattle.laws.proofs.Integers.{small-fits}
 use Rattle.points.specs.Internal.Cells.{value}
 use Rattle.points.proofs.Only.{stored, near-stored}
-use Rattle.spokes.specs.Internal.Fours.{sumAt}
-use Rattle.spokes.proofs.FourAdded.{two-small, three-small}
+use Rattle.spokes.proofs.CornerAdded.{two-small, three-small}
 use Rattle.spokes.proofs.fours.sum_at.Statement.{statement}
 use Rattle.spokes.proofs.fours.sum_at.Tie as tie
 

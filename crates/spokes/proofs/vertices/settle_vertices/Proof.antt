@@ -1,17 +1,12 @@
 -- `settle_vertices` takes one step of its definition a turn, in the first loop by listed corners and in the second by six.
-use Prim.Native.Nat.{ℕ, _+_, _-_, _*_, _/_, _≤_, _<_}
-use mathlib.Core.Path.{_≡_, refl, sym, ap, _∙_, subst}
-use mathlib.Core.List.{List}
+use Prim.Native.Nat.{_+_, _-_, _*_, _/_, _≤_, _<_}
+use mathlib.Core.Path.{_≡_, refl, sym, ap, _∙_}
 use native.Mathlib.Omega.{arith}
-use lib.IntN.{ℤ}
 use lib.ListN.{length}
 use borrow.Author.Needs.{needs}
 use Rattle.laws.specs.Internal.Steps.{steps}
 use Rattle.laws.proofs.Steps.{steps-none, steps-on, steps-end}
-use Rattle.halfedges.specs.Cage.{cell}
-use Rattle.points.specs.Internal.Relied.{knownCorners}
-use Rattle.points.specs.Internal.Cells.{value}
-use Rattle.spokes.specs.Internal.Vertices.{Settles, settle}
+use Rattle.spokes.specs.Internal.Vertices.{settle}
 use Rattle.spokes.proofs.Settled.{settles-on, own-known, added-known, settle-is}
 use Rattle.laws.proofs.Steps.{steps-add, steps-on-from}
 use Rattle.spokes.proofs.vertices.settle_vertices.Statement.{statement}
@@ -28,10 +23,6 @@ Inv-loop2 own points₀ vertices cells own-cells i₀ points i = (i₀ ≤ i) ×
 
 abbrev μ-loop2 : tie.MeasureT-loop2
 μ-loop2 own points₀ vertices cells own-cells i₀ points i = cells - i
-
--- what a turn asks of cell i
-abbrev SettlesBy : ℕ → ℕ → ℕ → List ℤ → Type 0
-SettlesBy i n corners l = Settles corners (value l i) (value l (3 * n + i))
 
 -- the second loop goes on where the first one ended
 so-far : (b : tie.At-loop2 Inv-loop μ-loop Inv-loop2 μ-loop2) → let s = b .before .before .before .before in b .loop2 .points ≡ steps (b .loop2 .i) (settle (s .args .own .now) (s .args .vertices)) (s .args .points .now)
@@ -62,11 +53,9 @@ settle-own-requires : tie.Need-settle-own-requires Inv-loop μ-loop Inv-loop2 μ
 settle-own-requires c κs =
     let b = c .before .before .before in
     let s = b .before .before in
-    let own = s .args .own .now in
     let i = b .loop .i in
     let turn : b .loop .i < 3 * s .args .vertices = omega (arith, s .pre .0) in
-    let known : knownCorners (s .args .own .now) (b .loop .i / 3) ≡ cell (s .args .own .now) (b .loop .i / 3) = own-known own (i / 3) (omega arith) in
-    (omega (arith, s .pre .1, b .loop .inv .1), subst (SettlesBy i (s .args .vertices) (cell own (i / 3))) (sym (b .loop .inv .2)) (subst (λ k. SettlesBy i (s .args .vertices) k (steps i (settle own (s .args .vertices)) (s .args .points .now))) known (settles-on own (s .args .vertices) (s .args .points .now) (s .pre .1) i turn (s .pre .2 i turn))))
+    (omega (arith, s .pre .1, b .loop .inv .1), settles-on _ _ _ (s .pre .1) i turn (s .pre .2 i turn) (own-known (s .args .own .now) (i / 3) (omega arith)) (b .loop .inv .2))
 
 add-i : tie.Need-add-i Inv-loop μ-loop Inv-loop2 μ-loop2
 add-i c = search needs
@@ -88,11 +77,9 @@ settle-added-requires : tie.Need-settle-added-requires Inv-loop μ-loop Inv-loop
 settle-added-requires c κs =
     let b = c .before .before in
     let s = b .before .before .before .before in
-    let own = s .args .own .now in
     let i = b .loop2 .i in
     let turn : b .loop2 .i < 3 * s .args .vertices = omega arith in
-    let known : knownCorners (s .args .own .now) (b .loop2 .i / 3) ≡ 6 = added-known own (i / 3) (omega arith) in
-    (omega (arith, s .pre .1, b .loop2 .inv .2, b .before .before .loop .inv .1), subst (SettlesBy i (s .args .vertices) 6) (sym (so-far b)) (subst (λ k. SettlesBy i (s .args .vertices) k (steps i (settle own (s .args .vertices)) (s .args .points .now))) known (settles-on own (s .args .vertices) (s .args .points .now) (s .pre .1) i turn (s .pre .2 i turn))))
+    (omega (arith, s .pre .1, b .loop2 .inv .2, b .before .before .loop .inv .1), settles-on _ _ _ (s .pre .1) i turn (s .pre .2 i turn) (added-known (s .args .own .now) (i / 3) (omega arith)) (so-far b))
 
 add-i-2 : tie.Need-add-i-2 Inv-loop μ-loop Inv-loop2 μ-loop2
 add-i-2 c = search needs
