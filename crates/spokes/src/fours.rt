@@ -1,12 +1,14 @@
 // The second pass above the cage: the spokes of the four triangles that one was split into are added at once.
 ghost use mathlib.Core.Path.{_≡_};
-ghost use Prim.Native.Nat.{_+_, _*_, _/_, _<_};
+ghost use Prim.Native.Nat.{_+_, _*_, _/_, _≤_, _<_};
+ghost use lib.IntN.{natAbs, _+ℤ_};
 ghost use lib.ListN.{length};
 ghost use Rattle.laws.specs.Internal.Steps.{steps};
 ghost use Rattle.halfedges.specs.Cage.{cell};
+ghost use Rattle.points.specs.Operations.{most-coordinate};
 ghost use Rattle.points.specs.Internal.Relied.{Fourfold};
 ghost use Rattle.spokes.specs.Internal.Sums.{Gathers};
-ghost use Rattle.spokes.specs.Internal.Fours.{NearThree, sumAt, sumOf, addCorner, AddsCorner, addFour, AddsFour, fourOf, fourSpokes};
+ghost use Rattle.spokes.specs.Internal.Fours.{NearThree, sumOf, addCorner, AddsCorner, addFour, AddsFour, fourOf, fourSpokes};
 use crate::sums::add_to;
 use points::cells::point_of;
 
@@ -20,12 +22,12 @@ struct Four {
     c: usize,
 }
 
-// Coordinate k of three points' sum.
-fn sum_at(p: [i32; 3], q: [i32; 3], r: [i32; 3], k: usize) -> i32
-    requires { ⌜ (k < 3) × (NearThree p q r) ⌝ }
-    ensures { λ s. ⌜ s ≡ sumAt p q r k ⌝ }
+// The sum of three coordinates in range.
+fn sum_at(x: i32, y: i32, z: i32) -> i32
+    requires { ⌜ (natAbs x ≤ most-coordinate) × (natAbs y ≤ most-coordinate) × (natAbs z ≤ most-coordinate) ⌝ }
+    ensures { λ r. ⌜ r ≡ x +ℤ y +ℤ z ⌝ }
 {
-    p[k] + q[k] + r[k]
+    x + y + z
 }
 
 // The sum of three points.
@@ -33,9 +35,9 @@ fn sum_of_three(p: [i32; 3], q: [i32; 3], r: [i32; 3]) -> [i32; 3]
     requires { ⌜ NearThree p q r ⌝ }
     ensures { λ s. ⌜ s ≡ sumOf p q r ⌝ }
 {
-    let x = sum_at(p, q, r, 0);
-    let y = sum_at(p, q, r, 1);
-    let z = sum_at(p, q, r, 2);
+    let x = sum_at(p[0], q[0], r[0]);
+    let y = sum_at(p[1], q[1], r[1]);
+    let z = sum_at(p[2], q[2], r[2]);
     [x, y, z]
 }
 
