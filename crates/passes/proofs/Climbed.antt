@@ -1,7 +1,7 @@
 -- The levels end to end, one more at a time. Assumes nothing.
 --     climb-start, climb-on      where the loop stands at level 0, and at one level more
 --     climb-asks                 each level finds what it asks in its part of the tables
---     climb-climbs               and its numbers are small
+--     climb-fits                 and its numbers are small
 use Prim.Native.Nat.{ℕ, zero, suc, _+_, _*_, _/_, _%_, _^_, _≤_, _<_}
 use mathlib.Core.Path.{_≡_, refl, sym, ap, _∙_}
 use mathlib.Core.Logic.{_≢_}
@@ -236,8 +236,8 @@ module _ (t : HalfedgeTable) (depth : ℕ) (lent : Tables) (points : List ℤ) (
     climb-end : x .at + 3 * x .counts .vertices ≤ length points
     climb-end = rw (stands .is-counts, stands .is-at) (omega (arith, room-for (suc d) (omega (arith, deeper))))
 
-    pub climb-climbs : length (lent .twin) < 2 ^ 64 → length points < 2 ^ 64 → Climbs x
-    climb-climbs long points-long =
+    pub climb-fits : length (lent .twin) < 2 ^ 64 → length points < 2 ^ 64 → Climbs x
+    climb-fits long points-long =
         let c = climb-small in
         record {
           some = some;

@@ -1,5 +1,5 @@
 -- Adding the spokes of one corner of four triangles. Assumes nothing.
---     sumOf-is, two-small, three-small         three points' sum
+--     sumOf-is, sum-small                      three points' sum
 --     adds-within, adds-second, corner-within  no sum wraps, and how large the sums are after it
 --     corner-on                                its turn, with points that were read
 --     corner-only, corner-sum                  what it leaves in every cell
@@ -28,14 +28,10 @@ module _ (p q r : List ℤ) (k : ℕ) (lk : k < 3) where
   pub sumOf-is : value (sumOf p q r) k ≡ sumAt p q r k
   sumOf-is = three (λ k. value (sumOf p q r) k ≡ sumAt p q r k) refl refl refl k lk
 
-  pub two-small : NearThree p q r → natAbs (value p k +ℤ value q k) ≤ most-coordinate * 2
-  two-small near = omega (arith, natAbs-add (value p k) (value q k), near .first k lk, near .second k lk)
-
-  pub three-small : NearThree p q r → natAbs (sumAt p q r k) ≤ most-coordinate * 3
-  three-small near = omega (arith, natAbs-add (value p k +ℤ value q k) (value r k), two-small near, near .third k lk)
-
   pub sum-small : NearThree p q r → natAbs (value (sumOf p q r) k) ≤ most-coordinate * 3
-  sum-small near = rw sumOf-is (three-small near)
+  sum-small near =
+      rw sumOf-is
+      (omega (arith, natAbs-add (value p k) (value q k), natAbs-add (value p k +ℤ value q k) (value r k), near .first k lk, near .second k lk, near .third k lk))
 
 -- a point with coordinates of at most `more` can be added where the sums are small, and they grow by no more
 module _ (n v most more : ℕ) (p l : List ℤ) (lv : v < n) (small : (k : ℕ) → k < 3 → natAbs (value p k) ≤ more) (within : Within n most l) where

@@ -23,7 +23,7 @@ struct Four {
 }
 
 // The sum of three coordinates in range.
-fn sum_at(x: i32, y: i32, z: i32) -> i32
+fn sum_three(x: i32, y: i32, z: i32) -> i32
     requires { ⌜ (natAbs x ≤ most-coordinate) × (natAbs y ≤ most-coordinate) × (natAbs z ≤ most-coordinate) ⌝ }
     ensures { λ r. ⌜ r ≡ x +ℤ y +ℤ z ⌝ }
 {
@@ -31,13 +31,13 @@ fn sum_at(x: i32, y: i32, z: i32) -> i32
 }
 
 // The sum of three points.
-fn sum_of_three(p: [i32; 3], q: [i32; 3], r: [i32; 3]) -> [i32; 3]
+fn sum_points(p: [i32; 3], q: [i32; 3], r: [i32; 3]) -> [i32; 3]
     requires { ⌜ NearThree p q r ⌝ }
     ensures { λ s. ⌜ s ≡ sumOf p q r ⌝ }
 {
-    let x = sum_at(p[0], q[0], r[0]);
-    let y = sum_at(p[1], q[1], r[1]);
-    let z = sum_at(p[2], q[2], r[2]);
+    let x = sum_three(p[0], q[0], r[0]);
+    let y = sum_three(p[1], q[1], r[1]);
+    let z = sum_three(p[2], q[2], r[2]);
     [x, y, z]
 }
 
@@ -56,7 +56,7 @@ fn add_corner(
     ensures { λ _. ⌜ now (points .exit) ≡ addCorner vertices x before p q r (now (points .entry)) ⌝ }
 {
     add_to(&mut *points, vertices, x, q);
-    let sum = sum_of_three(p, q, r);
+    let sum = sum_points(p, q, r);
     add_to(&mut *points, vertices, before, sum);
 }
 

@@ -66,7 +66,7 @@ pub record ReadyLevel (own : List ℕ) (x : Level) (lent : Tables) (points : Lis
 abbrev pub cageLevel : HalfedgeTable → ℕ → Level
 cageLevel t depth = record { left = depth; counts = t; before = 0; start = 0; at = 0 }
 
--- the level after one, and that its numbers do not wrap
+-- the level after one
 abbrev pub nextLevel : Level → Level
 nextLevel x =
     record {
@@ -77,6 +77,7 @@ nextLevel x =
       at = x .at + 3 * x .counts .vertices;
     }
 
+-- there is one, and its numbers do not wrap
 pub record Climbs (x : Level) : Type 0 where
   pub some : 0 < x .left
   pub counts : AtMost (2 ^ 60) (x .counts)

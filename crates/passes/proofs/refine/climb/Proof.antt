@@ -6,7 +6,7 @@ use lib.ListN.{length}
 use borrow.Author.Needs.{needs}
 use Rattle.tables.specs.Tables.{tables}
 use Rattle.passes.specs.Internal.Levels.{withLevels}
-use Rattle.passes.proofs.Climbed.{Stands, climb-start, climb-asks, climb-climbs, climb-on}
+use Rattle.passes.proofs.Climbed.{Stands, climb-start, climb-asks, climb-fits, climb-on}
 use Rattle.passes.proofs.refine.climb.Statement.{statement}
 use Rattle.passes.proofs.refine.climb.Tie as tie
 
@@ -35,7 +35,7 @@ refine-level-requires c κs =
 next-requires : tie.Need-next-requires Inv-loop μ-loop
 next-requires c κs =
     let b = c .before .before .before .before .before in
-    climb-climbs _ _ _ _ (start b .pre .ready) (b .loop .inv .2) (omega arith) (omega arith) (omega arith)
+    climb-fits _ _ _ _ (start b .pre .ready) (b .loop .inv .2) (omega arith) (omega arith) (omega arith)
 
 loop-less : tie.Need-loop-less Inv-loop μ-loop
 loop-less c = omega (arith, left-next c)

@@ -16,15 +16,15 @@ add-to-requires c κs =
     let s = c .before in
     adds-within _ _ (most-coordinate * most-corners + most-coordinate * 8) most-coordinate _ _ (s .pre .in-x) (s .pre .near .second) (s .pre .within) (omega arith)
 
-sum-of-three-requires : tie.Need-sum-of-three-requires
-sum-of-three-requires c κs = search needs
+sum-points-requires : tie.Need-sum-points-requires
+sum-points-requires c κs = search needs
 
 add-to-requires-2 : tie.Need-add-to-requires-2
 add-to-requires-2 c κs =
     let sum = c .before in
     let first = sum .before .before in
     let s = first .before .before in
-    rw (sum .sum-of-three .ensures, first .add-to .ensures)
+    rw (sum .sum-points .ensures, first .add-to .ensures)
     (adds-second _ _ _ (most-coordinate * most-corners + most-coordinate * 8) _ _ _ _ (s .pre .in-x) (s .pre .in-before) (s .pre .near) (s .pre .within) (omega arith))
 
 same-length : tie.Need-same-length
@@ -36,9 +36,9 @@ returns c =
     let sum = c .before .before .before in
     let first = sum .before .before in
     let s = first .before .before in
-    c .before .add-to2 .ensures ∙ ap₂ (addTo (s .args .vertices) (s .args .before)) (sum .sum-of-three .ensures) (first .add-to .ensures)
+    c .before .add-to2 .ensures ∙ ap₂ (addTo (s .args .vertices) (s .args .before)) (sum .sum-points .ensures) (first .add-to .ensures)
 
 pub add-corner-spec : {M : Type 1} → statement M
 add-corner-spec =
     tie.close
-    (tie.spec add-to-requires sum-of-three-requires add-to-requires-2 same-length returns)
+    (tie.spec add-to-requires sum-points-requires add-to-requires-2 same-length returns)

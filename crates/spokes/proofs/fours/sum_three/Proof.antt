@@ -1,12 +1,12 @@
--- `sum_at` adds three coordinates in range, whose sum is far from wrapping.
+-- `sum_three` adds three coordinates in range, whose sum is far from wrapping.
 use native.Mathlib.Omega.{arith}
 use lib.IntN.{_+ℤ_}
 use mir.Syntax.{w32}
 use mir.Val.{SFits}
 use mir.Facts.{toZ-ofZ}
 use Rattle.laws.proofs.Integers.{natAbs-add, small-fits}
-use Rattle.spokes.proofs.fours.sum_at.Statement.{statement}
-use Rattle.spokes.proofs.fours.sum_at.Tie as tie
+use Rattle.spokes.proofs.fours.sum_three.Statement.{statement}
+use Rattle.spokes.proofs.fours.sum_three.Tie as tie
 
 module _ (s : tie.Start) where
   two : SFits w32 (s .args .x +ℤ s .args .y)
@@ -24,5 +24,5 @@ add-result-2 s = simp (toZ-ofZ (s .fits .x), toZ-ofZ (s .fits .y), toZ-ofZ (s .f
 returns : tie.Need-returns
 returns s = simp (toZ-ofZ (s .fits .x), toZ-ofZ (s .fits .y), toZ-ofZ (s .fits .z), toZ-ofZ (two s), toZ-ofZ (three s))
 
-pub sum-at-spec : {M : Type 1} → statement M
-sum-at-spec = tie.close (tie.spec add-result add-result-2 returns)
+pub sum-three-spec : {M : Type 1} → statement M
+sum-three-spec = tie.close (tie.spec add-result add-result-2 returns)
