@@ -1,9 +1,8 @@
 // Cells of the lent points.
 ghost use mathlib.Core.Path.{_≡_};
-ghost use Prim.Native.Nat.{_+_, _*_, _^_, _<_};
-ghost use lib.IntN.{natAbs, _+ℤ_};
+ghost use Prim.Native.Nat.{_+_, _*_, _<_};
 ghost use lib.ListN.{length};
-ghost use Rattle.points.specs.Internal.Cells.{value, put, xyz, pointOf};
+ghost use Rattle.points.specs.Internal.Cells.{put, xyz, pointOf};
 
 // Coordinates x, y, z are stored from a cell on.
 pub fn put_point(points: &mut [i32], to: usize, x: i32, y: i32, z: i32)
@@ -13,17 +12,6 @@ pub fn put_point(points: &mut [i32], to: usize, x: i32, y: i32, z: i32)
     points[to] = x;
     points[to + 1] = y;
     points[to + 2] = z;
-}
-
-// The sum of coordinate k of what two points' cells hold.
-pub fn sum_of(points: &[i32], a: usize, b: usize, k: usize) -> i32
-    requires { ⌜ (a + k < length (now points)) × (b + k < length (now points))
-        × (natAbs (value (now points) (a + k)) + natAbs (value (now points) (b + k)) < 2 ^ 31) ⌝ }
-    ensures { λ r. ⌜ r ≡ value (now (points .entry)) (a + k) +ℤ value (now (points .entry)) (b + k) ⌝ }
-{
-    let x = points[a + k];
-    let y = points[b + k];
-    x + y
 }
 
 // A vertex's point.

@@ -1,12 +1,10 @@
 // The four point rules, for one coordinate.
 ghost use mathlib.Core.Path.{_≡_};
 ghost use Prim.Native.Nat.{_*_, _≤_};
-ghost use lib.IntN.{pos, natAbs};
-ghost use lib.Signed.{_<ℤ_};
+ghost use lib.IntN.{natAbs};
 ghost use Rattle.points.specs.PointRules.{E1, V3};
 ghost use Rattle.points.specs.Operations.{most-coordinate};
-ghost use Rattle.points.specs.Internal.Relied.{most-corners};
-ghost use Rattle.points.specs.Internal.Parts.{started, finished, met};
+ghost use Rattle.points.specs.Internal.Parts.{started, finished, met, AsksInside};
 use rounding::rounded;
 
 // The largest coordinate of a cage.
@@ -67,8 +65,7 @@ pub fn added_vertex(vertex: i32, sum: i32) -> i32
 
 // V.3: the new place of an inner vertex, with its number of corners and the sum over its spokes' far ends.
 pub fn inner_vertex(corners: i64, vertex: i64, sum: i64) -> i32
-    requires { ⌜ (pos 0 <ℤ corners) × (natAbs corners ≤ most-corners) × (natAbs vertex ≤ most-coordinate)
-        × (natAbs sum ≤ most-coordinate * natAbs corners) ⌝ }
+    requires { ⌜ AsksInside corners vertex sum ⌝ }
     ensures { λ r. ⌜ r ≡ V3 (natAbs corners) vertex sum ⌝ }
 {
     let numerator = 5 * corners * vertex + 3 * sum;

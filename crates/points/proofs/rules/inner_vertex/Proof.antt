@@ -27,7 +27,7 @@ module _ (s : tie.Start) where
   t = s .args .sum
 
   positive : (n ≡ pos (natAbs n)) × (0 < natAbs n)
-  positive = pos-of n (s .pre .0)
+  positive = pos-of n (s .pre .some)
 
   five-fits : SFits w64 (pos 5 *ℤ n)
   five-fits = small-fits w64 _ (omega (arith, natAbs-mul (pos 5) n))
@@ -35,7 +35,7 @@ module _ (s : tie.Start) where
   weighed-fits : SFits w64 (pos 5 *ℤ n *ℤ v)
   weighed-fits =
       let e : natAbs (pos 5 *ℤ n *ℤ v) ≡ 5 * natAbs n * natAbs v = natAbs-mul (pos 5 *ℤ n) v ∙ ap (λ k. k * natAbs v) (natAbs-mul (pos 5) n) in
-      let b : 5 * natAbs n * natAbs v ≤ 5 * natAbs n * most-coordinate = mul-le-mul-left (5 * natAbs n) (s .pre .2) in
+      let b : 5 * natAbs n * natAbs v ≤ 5 * natAbs n * most-coordinate = mul-le-mul-left (5 * natAbs n) (s .pre .place) in
       small-fits w64 _ (omega arith)
 
   three-fits : SFits w64 (pos 3 *ℤ t)
@@ -44,7 +44,7 @@ module _ (s : tie.Start) where
   small : natAbs (pos 5 *ℤ n *ℤ v +ℤ pos 3 *ℤ t) ≤ most-coordinate * natAbs (pos 8 *ℤ n)
   small =
       subst (λ z. natAbs (pos 5 *ℤ z *ℤ v +ℤ pos 3 *ℤ t) ≤ most-coordinate * natAbs (pos 8 *ℤ z)) (sym (positive .0))
-      (V3-numerator most-coordinate (natAbs n) v t (s .pre .2) (s .pre .3))
+      (V3-numerator most-coordinate (natAbs n) v t (s .pre .place) (s .pre .small))
 
   fits : SFits w64 (pos 5 *ℤ n *ℤ v +ℤ pos 3 *ℤ t)
   fits = small-fits w64 _ (omega (arith, small, natAbs-mul (pos 8) n))

@@ -51,7 +51,7 @@ inner-vertex-requires : tie.Need-inner-vertex-requires
 inner-vertex-requires c κs =
     let s = c .before .before in
     let m = s .pre .1 in
-    simp (corners-same s, widened (place-fits (c .before)), widened (sum-fits c)) (record { lt = lt→ltb 0 _ (m .some) }, m .few, m .place, m .small)
+    simp (corners-same s, widened (place-fits (c .before)), widened (sum-fits c)) (record { some = record { lt = lt→ltb 0 _ (m .some) }; few = m .few; place = m .place; small = m .small })
 
 add-t7 : tie.Need-add-t7
 add-t7 c = search needs
