@@ -6,7 +6,8 @@ ghost use Rattle.laws.specs.Below.{tabulate};
 ghost use Rattle.laws.specs.Parts.{inFront};
 ghost use Rattle.tables.specs.Tables.{tables};
 ghost use Rattle.cagefile.specs.Numbers.{u16At, u32At, asTwin, signed};
-ghost use Rattle.reading.specs.Reading.{HIn, VIn, twinsIn, vertsIn, edgesIn, pointsIn, readFile, reported};
+ghost use Rattle.reading.specs.Reading.{twinsIn, vertsIn, edgesIn, pointsIn, readFile, reported};
+ghost use Rattle.reading.specs.Internal.Room.{Roomy};
 use cagefile::fields;
 use cagefile::numbers;
 use halfedges::answer::Answer;
@@ -74,10 +75,7 @@ fn copy_points(file: &[u8], at: usize, points: &mut [i32], count: usize)
 
 // The payloads into the lent tables, once all checks are passed.
 fn copy(file: &[u8], twin: &mut [u32], vert: &mut [u32], edge: &mut [u32], points: &mut [i32])
-    requires { let H = HIn (now file) in
-        let v = VIn (now file) in
-        ⌜ (24 + 6 * H + 12 * v ≤ length (now file)) × (H ≤ length (now twin)) × (H ≤ length (now vert)) × (H ≤ length (now edge))
-        × (3 * v ≤ length (now points)) ⌝ }
+    requires { ⌜ Roomy (now file) (tables (now twin) (now vert) (now edge)) (now points) ⌝ }
     ensures { λ _.
         let f = now (file .entry) in
         ⌜ (now (twin .exit) ≡ inFront (twinsIn f) (now (twin .entry))) × (now (vert .exit) ≡ inFront (vertsIn f) (now (vert .entry)))

@@ -64,7 +64,7 @@ copy-requires : tie.Need-copy-requires
 copy-requires c κs =
     let d = c .before .before .before .before .before .before in
     let room = read-room _ _ _ (done d) in
-    (omega (arith, long d), room .twin, room .vert, room .edge, room .coordinates)
+    record { whole = omega (arith, long d); twin = room .twin; vert = room .vert; edge = room .edge; coordinates = room .coordinates }
 
 same-length-5 : tie.Need-same-length-5
 same-length-5 c = search needs
