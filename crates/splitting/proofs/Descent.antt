@@ -10,6 +10,7 @@ use native.Mathlib.Omega.{arith}
 use lib.ListN.{length}
 use borrow.Author.Tests.{ne-eqb, lt-ltb, le-ltb}
 use Rattle.halfedges.specs.declared.table.HalfedgeTable.{HalfedgeTable}
+use Rattle.splitting.specs.declared.above.Known.{Known}
 use Rattle.laws.specs.Internal.Parts.{part}
 use Rattle.laws.proofs.Parts.{part-at}
 use Rattle.laws.proofs.Tabulate.{getD-tabulate}
@@ -17,10 +18,10 @@ use Rattle.halfedges.specs.Cage.{NEXT, PREV, marker, cell}
 use Rattle.halfedges.proofs.Triangle.{next-last, next-other}
 use Rattle.splitting.specs.NextLevel.{newTwin, nextTwins}
 use Rattle.tables.specs.Internal.Above.{isAbove}
-use Rattle.splitting.specs.Internal.InPlace.{withSplit, Housed, SmallTwins, KnownNext, Leaving, CornerTriangle, MiddleTriangle, Descended}
+use Rattle.splitting.specs.Internal.InPlace.{cellsAt, withSplit, Housed, SmallTwins, Fits, KnownNext, Leaving, CornerTriangle, MiddleTriangle, Descended}
 use Rattle.splitting.proofs.Rows.{at-corner, at-across, at-back, at-middle}
 use Rattle.splitting.proofs.Soundness.{where-twin}
-use Rattle.splitting.proofs.Triangles.{Filled, filled-three, filled-before, twins-on}
+use Rattle.splitting.proofs.Triangles.{TwinsFilled, filled-three, filled-before, filled-fits, twins-on}
 
 -- the next level of c's, where it stands
 module _ (t : HalfedgeTable) (at : ℕ) (twin c : List ℕ) (four : t .halfedges ≡ 4 * length c) (made : part twin at (t .halfedges) ≡ nextTwins c) where
@@ -50,13 +51,6 @@ two-below {t} l = by (ℕ-discrete t marker)
     by : Dec (t ≡ marker) → 2 ≤ t
     by (yes e) = omega arith
     by (no e) = omega (arith, l e .1)
-
-pub marker-most : {t : ℕ} → Leaving 0 t → t ≤ marker
-marker-most {t} l = by (ℕ-discrete t marker)
-  where
-    by : Dec (t ≡ marker) → t ≤ marker
-    by (yes e) = omega arith
-    by (no e) = omega (arith, l e .0)
 
 pub last-next : {t x : ℕ} → Leaving 2 t → x ≡ t → KnownNext t (x - 2)
 last-next {t} l e m = (l m .0, ap (λ y. y - 2) e ∙ sym (next-last t (l m .1)))
@@ -93,14 +87,11 @@ module _ {t : HalfedgeTable} {at : ℕ} {twin : List ℕ} (s : Housed t at twin)
 
 -- the loop over the corner triangles has come to the j-th
 pub record Cornered (n at : ℕ) (xs ys : List ℕ) (j : ℕ) : Type 0 where
-  pub filled : Filled n at (newTwin (part xs at n)) xs ys (3 * j)
+  pub filled : TwinsFilled n at xs ys (3 * j)
   pub first : j % 3 ≡ 0
   pub within : j ≤ n / 4
 
 module _ {t : HalfedgeTable} {at : ℕ} {xs : List ℕ} (pre : Housed t at xs × SmallTwins t at xs × Descended t at xs) where
-  abbrev s : Housed t at xs
-  s = pre .0
-
   abbrev d : Descended t at xs
   d = pre .2
 
@@ -110,39 +101,40 @@ module _ {t : HalfedgeTable} {at : ℕ} {xs : List ℕ} (pre : Housed t at xs ×
   abbrev q : ℕ
   q = n / 4
 
-  abbrev So-far : List ℕ → ℕ → Type 0
-  So-far ys h = Filled n at (newTwin (part xs at n)) xs ys h
+  as-it-was : {ys : List ℕ} {h : ℕ} → TwinsFilled n at xs ys h → h < n → (k : ℕ) → k < h + 3 → cell ys (at + k) ≡ cell xs (at + k)
+  as-it-was f l k m = filled-before f l (at + k) (omega (arith, filled-three f l .0))
 
-  as-it-was : {ys : List ℕ} {h : ℕ} → So-far ys h → h < n → (k : ℕ) → k < h + 3 → cell ys (at + k) ≡ cell xs (at + k)
-  as-it-was f l k m = filled-before s _ f (at + k) (omega (arith, filled-three s _ f l))
+  module _ {ys : List ℕ} {j : ℕ} (f : TwinsFilled n at xs ys (3 * j)) (l : j < q) where
+    -- a corner triangle is ready to be split, and then one more is filled in
+    pub corner-there : (across : Known) → across .0 ≡ 3 * q + j → across .1 ≡ NEXT (across .0) → Fits n at (3 * j) ys × CornerTriangle (cellsAt ys at (3 * j)) across
+    corner-there across e o =
+        let w = as-it-was f (omega arith) in (
+          filled-fits f (omega arith),
+          record {
+            first = rw (w (3 * j) (omega arith)) (λ m. (pre .1 (3 * j) (omega arith) m, d .corner j l m));
+            second = w (3 * j + 1) (omega arith) ∙ d .across j l ∙ sym e;
+            third = rw (w (3 * j + 2) (omega arith)) (λ m. (pre .1 (3 * j + 2) (omega arith) m, d .back j l m));
+            small = omega (arith, e, f .small);
+            known = o;
+          },
+        )
 
-  module _ {ys : List ℕ} {j : ℕ} (f : So-far ys (3 * j)) (l : j < q) where
-    pub corner-there : (across next : ℕ) → across ≡ 3 * q + j → next ≡ NEXT across → CornerTriangle ys (at + 3 * j) across next
-    corner-there across next e o =
-        let b : at + 3 * j + 1 ≡ at + (3 * j + 1) = omega arith in
-        let c : at + 3 * j + 2 ≡ at + (3 * j + 2) = omega arith in
-        let w = as-it-was f (omega arith) in
-        record {
-          first = rw (w (3 * j) (omega arith)) (λ m. (pre .1 (3 * j) (omega arith) m, d .corner j l m));
-          second = rw b (w (3 * j + 1) (omega arith) ∙ d .across j l ∙ sym e);
-          third = rw (c, w (3 * j + 2) (omega arith)) (λ m. (pre .1 (3 * j + 2) (omega arith) m, d .back j l m));
-          small = omega (arith, e, s .small .halfedges);
-          known = o;
-        }
+    pub corner-on : {zs : List ℕ} {k : ℕ} → zs ≡ withSplit ys at n (3 * j) → k ≡ j + 1 → TwinsFilled n at xs zs (3 * k)
+    corner-on {zs} {k} e o = subst (TwinsFilled n at xs zs) (let r : 3 * j + 3 ≡ 3 * k = omega (arith, o) in r) (twins-on f (omega arith) refl refl e)
 
-    pub corner-on : {zs : List ℕ} {k : ℕ} → zs ≡ withSplit ys at n (3 * j) → k ≡ j + 1 → So-far zs (3 * k)
-    corner-on {zs} {k} e o = subst (So-far zs) (let r : 3 * j + 3 ≡ 3 * k = omega (arith, o) in r) (twins-on s f (omega arith) refl refl e)
-
-  pub middle-there : {ys : List ℕ} {j : ℕ} → So-far ys (3 * q + j) → j < q → MiddleTriangle ys (at + (3 * q + j)) (3 * j + 1)
+  pub middle-there : {ys : List ℕ} {j : ℕ} → TwinsFilled n at xs ys (3 * q + j) → j < q → Fits n at (3 * q + j) ys × MiddleTriangle (cellsAt ys at (3 * q + j)) (3 * j + 1)
   middle-there {ys} {j} f l =
-      let w = as-it-was f (omega (arith, d .four)) in
-      let m : j + 3 ≤ q = omega (arith, d .four, filled-three s _ f (omega (arith, d .four))) in
-      let b : at + (3 * q + j) + 1 ≡ at + (3 * q + (j + 1)) = omega arith in
-      let c : at + (3 * q + j) + 2 ≡ at + (3 * q + (j + 2)) = omega arith in
-      record {
-        first = w (3 * q + j) (omega arith) ∙ d .middle j l;
-        second = rw b (w (3 * q + (j + 1)) (omega arith) ∙ d .middle (j + 1) (omega arith) ∙ omega arith);
-        third = rw c (w (3 * q + (j + 2)) (omega arith) ∙ d .middle (j + 2) (omega arith) ∙ omega arith);
-        small = omega (arith, s .small .halfedges);
-        leaving = omega arith;
-      }
+      let i : 3 * q + j < n = omega (arith, d .four) in
+      let m : j + 3 ≤ q = omega (arith, d .four, filled-three f i .0) in
+      let w = as-it-was f i in
+      let b : 3 * q + j + 1 ≡ 3 * q + (j + 1) = omega arith in
+      let c : 3 * q + j + 2 ≡ 3 * q + (j + 2) = omega arith in (
+        filled-fits f i,
+        record {
+          first = w (3 * q + j) (omega arith) ∙ d .middle j l;
+          second = rw b (w (3 * q + (j + 1)) (omega arith) ∙ d .middle (j + 1) (omega arith) ∙ omega arith);
+          third = rw c (w (3 * q + (j + 2)) (omega arith) ∙ d .middle (j + 2) (omega arith) ∙ omega arith);
+          small = omega (arith, f .small);
+          leaving = omega arith;
+        },
+      )

@@ -1,12 +1,11 @@
 // One level to the next, written straight after it in the same tables.
 ghost use mathlib.Core.Path.{_≡_};
 ghost use Prim.Native.Nat.{_+_, _<_};
-ghost use Rattle.laws.specs.Internal.Parts.{part};
 ghost use Rattle.tables.specs.Tables.{tables};
-ghost use Rattle.splitting.specs.NextLevel.{nextTwins, nextVerts, nextEdges};
-ghost use Rattle.splitting.specs.Internal.InPlace.{SmallTwins, SmallEdges, Housed, Standing, withNext, withNextLevel};
+ghost use Rattle.splitting.specs.Internal.InPlace.{SmallTwins, SmallEdges, Housed, Standing, withNextTwins, withNextVerts, withNextEdges, withNextLevel};
 use crate::above::edges_above;
 use crate::above::twins_above;
+use crate::split::Above;
 use crate::split::above_at;
 use crate::split::put;
 use crate::split::put_edges;
@@ -19,15 +18,13 @@ use halfedges::table::HalfedgeTable;
 fn cage_twins(twin: &mut [u32], at: usize, level: HalfedgeTable)
     requires { ⌜ Housed level at (now twin) ⌝ }
     requires { ⌜ SmallTwins level at (now twin) ⌝ }
-    ensures { λ _.
-        ⌜ now (twin .exit) ≡ withNext (now (twin .entry)) at (level .halfedges)
-        (nextTwins (part (now (twin .entry)) at (level .halfedges))) ⌝ }
+    ensures { λ _. ⌜ now (twin .exit) ≡ withNextTwins (now (twin .entry)) at level ⌝ }
 {
     let halfedges = level.halfedges;
     let mut first = 0;
     while first < halfedges {
-        let split = split_twins(three(twin, at + first), halfedges, first);
-        put(twin, at + halfedges, halfedges, first, split);
+        let split = split_twins(three(twin, at, first), halfedges, first);
+        put(twin, at, halfedges, first, split);
         first += 3;
     }
 }
@@ -36,17 +33,14 @@ fn cage_twins(twin: &mut [u32], at: usize, level: HalfedgeTable)
 fn next_verts(vert: &mut [u32], edge: &[u32], at: usize, level: HalfedgeTable)
     requires { ⌜ (Housed level at (now vert)) × (Housed level at (now edge)) ⌝ }
     requires { ⌜ SmallEdges level at (now edge) ⌝ }
-    ensures { λ _.
-        ⌜ now (vert .exit) ≡ withNext (now (vert .entry)) at (level .halfedges)
-        (nextVerts (part (now (vert .entry)) at (level .halfedges)) (part (now (edge .entry)) at (level .halfedges))
-        (level .vertices)) ⌝ }
+    ensures { λ _. ⌜ now (vert .exit) ≡ withNextVerts (now (vert .entry)) (now (edge .entry)) at level ⌝ }
 {
     let halfedges = level.halfedges;
     let vertices = level.vertices;
     let mut first = 0;
     while first < halfedges {
-        let split = split_verts(three(vert, at + first), three(edge, at + first), vertices);
-        put(vert, at + halfedges, halfedges, first, split);
+        let split = split_verts(three(vert, at, first), three(edge, at, first), vertices);
+        put(vert, at, halfedges, first, split);
         first += 3;
     }
 }
@@ -55,10 +49,7 @@ fn next_verts(vert: &mut [u32], edge: &[u32], at: usize, level: HalfedgeTable)
 fn cage_edges(edge: &mut [u32], twin: &[u32], at: usize, level: HalfedgeTable)
     requires { ⌜ (Housed level at (now edge)) × (Housed level at (now twin)) ⌝ }
     requires { ⌜ SmallEdges level at (now edge) ⌝ }
-    ensures { λ _.
-        ⌜ now (edge .exit) ≡ withNext (now (edge .entry)) at (level .halfedges)
-        (nextEdges (part (now (twin .entry)) at (level .halfedges)) (part (now (edge .entry)) at (level .halfedges))
-        (level .edges)) ⌝ }
+    ensures { λ _. ⌜ now (edge .exit) ≡ withNextEdges (now (edge .entry)) (now (twin .entry)) at level ⌝ }
 {
     let halfedges = level.halfedges;
     let mut first = 0;
@@ -66,7 +57,8 @@ fn cage_edges(edge: &mut [u32], twin: &[u32], at: usize, level: HalfedgeTable)
         let a = above_at(twin, at, first);
         let b = above_at(twin, at, first + 1);
         let c = above_at(twin, at, first + 2);
-        put_edges(edge, at, level, first, a, b, c);
+        let above = Above(a, b, c);
+        put_edges(edge, at, level, first, above);
         first += 3;
     }
 }

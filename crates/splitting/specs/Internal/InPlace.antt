@@ -4,16 +4,20 @@ use Prim.Native.Nat.{ℕ, _+_, _*_, _/_, _%_, _≤_, _<_}
 use mathlib.Core.Path.{_≡_}
 use mathlib.Core.Logic.{_≢_}
 use mathlib.Core.Bool.{Bool, cond}
-use mathlib.Core.List.{List, [], _∷_, _++_}
+use mathlib.Core.List.{List, _++_}
 use lib.Dec.{eqb}
 use lib.ListN.{length, take, drop, set}
 use Rattle.halfedges.specs.declared.table.HalfedgeTable.{HalfedgeTable}
+use Rattle.splitting.specs.declared.above.Known.{Known}
+use Rattle.splitting.specs.declared.halves.Halves.{Halves}
+use Rattle.splitting.specs.declared.halves.Three.{Three}
+use Rattle.splitting.specs.declared.split.Above.{Above}
 use Rattle.splitting.specs.declared.split.Split.{Split}
 use Rattle.laws.specs.Internal.Parts.{part}
 use Rattle.halfedges.specs.Cage.{NEXT, marker, cell}
 use Rattle.halfedges.specs.Internal.Counts.{AtMost}
 use Rattle.tables.specs.Tables.{Tables, tables}
-use Rattle.splitting.specs.NextLevel.{next}
+use Rattle.splitting.specs.NextLevel.{nextTwins, nextEdges, nextVerts}
 
 -- the level of t's size from an offset on
 abbrev pub levelAt : HalfedgeTable → ℕ → Tables → Tables
@@ -23,18 +27,34 @@ levelAt t at x = tables (part (x .twin) at (t .halfedges)) (part (x .vert) at (t
 abbrev pub withNext : List ℕ → ℕ → ℕ → List ℕ → List ℕ
 withNext xs at n cells = take (at + n) xs ++ (cells ++ drop (at + 5 * n) xs)
 
+-- TWIN, VERT and EDGE with the next level's cells after those of the level that stands at an offset
+abbrev pub withNextTwins : List ℕ → ℕ → HalfedgeTable → List ℕ
+withNextTwins twin at t = withNext twin at (t .halfedges) (nextTwins (part twin at (t .halfedges)))
+
+abbrev pub withNextVerts : List ℕ → List ℕ → ℕ → HalfedgeTable → List ℕ
+withNextVerts vert edge at t =
+    withNext vert at (t .halfedges) (nextVerts (part vert at (t .halfedges)) (part edge at (t .halfedges)) (t .vertices))
+
+abbrev pub withNextEdges : List ℕ → List ℕ → ℕ → HalfedgeTable → List ℕ
+withNextEdges edge twin at t =
+    withNext edge at (t .halfedges) (nextEdges (part twin at (t .halfedges)) (part edge at (t .halfedges)) (t .edges))
+
 -- the three tables with the next level's cells after those of a level
 unfoldable pub withNextLevel : HalfedgeTable → ℕ → Tables → Tables
 withNextLevel t at x =
-    let c = next t (levelAt t at x) in
-    tables
-    (withNext (x .twin) at (t .halfedges) (c .twin))
-    (withNext (x .vert) at (t .halfedges) (c .vert))
-    (withNext (x .edge) at (t .halfedges) (c .edge))
+    tables (withNextTwins (x .twin) at t) (withNextVerts (x .vert) (x .edge) at t) (withNextEdges (x .edge) (x .twin) at t)
 
 -- what a triangle's halfedges h, h+1 and h+2 have
-abbrev pub trio : (ℕ → ℕ) → ℕ → List ℕ
-trio f h = f h ∷ f (h + 1) ∷ f (h + 2) ∷ []
+abbrev pub trio : (ℕ → ℕ) → ℕ → Three
+trio f h = (f h, f (h + 1), f (h + 2))
+
+-- the same in a table, of the level that stands at an offset
+abbrev pub cellsAt : List ℕ → ℕ → ℕ → Three
+cellsAt table at = trio (λ h. cell table (at + h))
+
+-- what holds of each of the three
+abbrev pub EachOf : (ℕ → Type 0) → Three → Type 0
+EachOf P c = P (c .0) × P (c .1) × P (c .2)
 
 -- "3·NEXT(t)+2" and "3·t'", where there is a twin
 abbrev pub outerTwin : ℕ → ℕ
@@ -44,8 +64,8 @@ abbrev pub innerTwin : ℕ → ℕ
 innerTwin t = cond (eqb t marker) marker (3 * t)
 
 -- both: the twins of the halves of t's twin
-abbrev pub twinHalves : ℕ → List ℕ
-twinHalves t = outerTwin t ∷ innerTwin t ∷ []
+abbrev pub twinHalves : ℕ → Halves
+twinHalves t = (outerTwin t, innerTwin t)
 
 -- "2·EDGE(h), plus 0 if h > t else 1" and "2·EDGE(h'), plus 1 if h' > t' else 0"
 abbrev pub firstHalf : ℕ → Bool → ℕ
@@ -55,63 +75,56 @@ abbrev pub secondHalf : ℕ → Bool → ℕ
 secondHalf e up = 2 * e + cond up 1 0
 
 -- the two halves of an edge
-abbrev pub edgeHalves : ℕ → Bool → List ℕ
-edgeHalves e up = firstHalf e up ∷ secondHalf e up ∷ []
+abbrev pub edgeHalves : ℕ → Bool → Halves
+edgeHalves e up = (firstHalf e up, secondHalf e up)
 
--- TWIN of the four triangles that a triangle is split into, from the twins of the halves of its halfedges, of which h is the first
-unfoldable pub joinTwins : List ℕ → List ℕ → List ℕ → ℕ → ℕ → Split
-joinTwins a b c n h =
-    record {
-      first = cell a 0 ∷ (3 * n + h) ∷ cell c 1 ∷ [];
-      second = cell b 0 ∷ (3 * n + (h + 1)) ∷ cell a 1 ∷ [];
-      third = cell c 0 ∷ (3 * n + (h + 2)) ∷ cell b 1 ∷ [];
-      middle = trio (λ k. 3 * k + 1) h;
-    }
+-- the four triangles that one is split into, in any table: from the halves a, b and c of its halfedges, the new halfedges across
+-- its corners and those of the middle triangle
+unfoldable pub joined : Halves → Halves → Halves → Three → Three → Split
+joined a b c across middle =
+    record { first = (a .0, across .0, c .1); second = (b .0, across .1, a .1); third = (c .0, across .2, b .1); middle = middle }
 
--- TWIN of the four triangles that a triangle is split into, from its twins
-unfoldable pub splitTwins : List ℕ → ℕ → ℕ → Split
-splitTwins twins n h = joinTwins (twinHalves (cell twins 0)) (twinHalves (cell twins 1)) (twinHalves (cell twins 2)) n h
+-- TWIN of the four, from the twins of the halves, where h is the triangle's first halfedge
+unfoldable pub joinTwins : Halves → Halves → Halves → ℕ → ℕ → Split
+joinTwins a b c n h = joined a b c (trio (λ k. 3 * n + k) h) (trio (λ k. 3 * k + 1) h)
+
+-- TWIN of the four, from the triangle's twins
+unfoldable pub splitTwins : Three → ℕ → ℕ → Split
+splitTwins twins n h = joinTwins (twinHalves (twins .0)) (twinHalves (twins .1)) (twinHalves (twins .2)) n h
 
 -- VERT of the four, from the triangle's corners and edges
-unfoldable pub splitVerts : List ℕ → List ℕ → ℕ → Split
+unfoldable pub splitVerts : Three → Three → ℕ → Split
 splitVerts verts edges v =
-    record {
-      first = cell verts 0 ∷ (v + cell edges 0) ∷ (v + cell edges 2) ∷ [];
-      second = cell verts 1 ∷ (v + cell edges 1) ∷ (v + cell edges 0) ∷ [];
-      third = cell verts 2 ∷ (v + cell edges 2) ∷ (v + cell edges 1) ∷ [];
-      middle = (v + cell edges 2) ∷ (v + cell edges 0) ∷ (v + cell edges 1) ∷ [];
-    }
+    let a = v + edges .0 in
+    let b = v + edges .1 in
+    let c = v + edges .2 in
+    joined (verts .0, a) (verts .1, b) (verts .2, c) (a, b, c) (c, a, b)
 
--- EDGE of the four, from the triangle's edges, where a, b and c say which of its halfedges are above their twins
-unfoldable pub splitEdges : List ℕ → Bool → Bool → Bool → ℕ → ℕ → Split
-splitEdges edges a b c e h =
-    record {
-      first = firstHalf (cell edges 0) a ∷ (2 * e + h) ∷ secondHalf (cell edges 2) c ∷ [];
-      second = firstHalf (cell edges 1) b ∷ (2 * e + (h + 1)) ∷ secondHalf (cell edges 0) a ∷ [];
-      third = firstHalf (cell edges 2) c ∷ (2 * e + (h + 2)) ∷ secondHalf (cell edges 1) b ∷ [];
-      middle = trio (λ k. 2 * e + k) h;
-    }
+-- EDGE of the four, from the triangle's edges and which of its halfedges are above their twins
+unfoldable pub splitEdges : Three → Above → ℕ → ℕ → Split
+splitEdges edges up e h =
+    joined
+    (edgeHalves (edges .0) (up .0)) (edgeHalves (edges .1) (up .1)) (edgeHalves (edges .2) (up .2))
+    (trio (λ k. 2 * e + k) h) (trio (λ k. 2 * e + k) h)
 
 -- three cells together
-abbrev pub setThree : List ℕ → ℕ → ℕ → ℕ → ℕ → List ℕ
-setThree xs k a b c = set (set (set xs k a) (k + 1) b) (k + 2) c
+unfoldable pub setThree : List ℕ → ℕ → Three → List ℕ
+setThree xs k c = set (set (set xs k (c .0)) (k + 1) (c .1)) (k + 2) (c .2)
 
--- a triangle's split in the next level of one of n halfedges, which starts at base
+-- a triangle's split in the next level, straight after the level of n halfedges that stands at an offset
 unfoldable pub setSplit : List ℕ → ℕ → ℕ → ℕ → Split → List ℕ
-setSplit xs base n h s =
-    let a = setThree xs (base + 3 * h) (cell (s .first) 0) (cell (s .first) 1) (cell (s .first) 2) in
-    let b = setThree a (base + 3 * h + 3) (cell (s .second) 0) (cell (s .second) 1) (cell (s .second) 2) in
-    let c = setThree b (base + 3 * h + 6) (cell (s .third) 0) (cell (s .third) 1) (cell (s .third) 2) in
-    setThree c (base + (3 * n + h)) (cell (s .middle) 0) (cell (s .middle) 1) (cell (s .middle) 2)
+setSplit xs at n h s =
+    let a = setThree xs (at + n + 3 * h) (s .first) in
+    let b = setThree a (at + n + 3 * h + 3) (s .second) in
+    let c = setThree b (at + n + 3 * h + 6) (s .third) in
+    setThree c (at + n + (3 * n + h)) (s .middle)
 
--- the split of the triangle at h, of the level that stands at an offset, in TWIN
+-- the split of the triangle at h in TWIN, and in EDGE
 abbrev pub withSplit : List ℕ → ℕ → ℕ → ℕ → List ℕ
-withSplit twin at n h = setSplit twin (at + n) n h (splitTwins (trio (cell twin) (at + h)) n h)
+withSplit twin at n h = setSplit twin at n h (splitTwins (cellsAt twin at h) n h)
 
--- the split of the triangle at h, of the level that stands at an offset, in EDGE
-abbrev pub withSplitEdges : List ℕ → ℕ → HalfedgeTable → ℕ → Bool → Bool → Bool → List ℕ
-withSplitEdges edge at t h a b c =
-    setSplit edge (at + t .halfedges) (t .halfedges) h (splitEdges (trio (cell edge) (at + h)) a b c (t .edges) h)
+abbrev pub withSplitEdges : List ℕ → ℕ → HalfedgeTable → ℕ → Above → List ℕ
+withSplitEdges edge at t h up = setSplit edge at (t .halfedges) h (splitEdges (cellsAt edge at h) up (t .edges) h)
 
 -- what H, E and V of a small level are at most: no level that is refined has more, and the numbers of the one after it fit a cell
 abbrev pub most-small : ℕ
@@ -133,15 +146,18 @@ pub record Housed (t : HalfedgeTable) (at : ℕ) (xs : List ℕ) : Type 0 where
   pub whole : t .halfedges % 3 ≡ 0
   pub room : at + 5 * t .halfedges ≤ length xs
 
--- a twin, all twins of a level and all its edges are small
+-- a twin and an edge, all twins of a level and all its edges are small
 abbrev pub SmallTwin : ℕ → Type 0
 SmallTwin t = t ≢ marker → t < most-small
+
+abbrev pub SmallEdge : ℕ → Type 0
+SmallEdge e = e < most-small
 
 abbrev pub SmallTwins : HalfedgeTable → ℕ → List ℕ → Type 0
 SmallTwins t at twin = (h : ℕ) → h < t .halfedges → SmallTwin (cell twin (at + h))
 
 abbrev pub SmallEdges : HalfedgeTable → ℕ → List ℕ → Type 0
-SmallEdges t at edge = (h : ℕ) → h < t .halfedges → cell edge (at + h) < most-small
+SmallEdges t at edge = (h : ℕ) → h < t .halfedges → SmallEdge (cell edge (at + h))
 
 -- a triangle of a small level at an offset, with room for its split
 pub record Fits (n at h : ℕ) (xs : List ℕ) : Type 0 where
@@ -157,19 +173,19 @@ KnownNext t next = t ≢ marker → (t < most-small) × (next ≡ NEXT t)
 abbrev pub Leaving : ℕ → ℕ → Type 0
 Leaving r t = t ≢ marker → (t < most-small) × (t % 3 ≡ r)
 
--- the twins of a corner triangle at k, of which the one across is known, and its NEXT
-pub record CornerTriangle (twin : List ℕ) (k across next : ℕ) : Type 0 where
-  pub first : Leaving 2 (cell twin k)
-  pub second : cell twin (k + 1) ≡ across
-  pub third : Leaving 0 (cell twin (k + 2))
-  pub small : across < most-small
-  pub known : next ≡ NEXT across
+-- the twins of a corner triangle, of which the one across is known, and its NEXT
+pub record CornerTriangle (twins : Three) (across : Known) : Type 0 where
+  pub first : Leaving 2 (twins .0)
+  pub second : twins .1 ≡ across .0
+  pub third : Leaving 0 (twins .2)
+  pub small : across .0 < most-small
+  pub known : across .1 ≡ NEXT (across .0)
 
--- the twins of a middle triangle at k: those across from it in three corner triangles one after the other
-pub record MiddleTriangle (twin : List ℕ) (k across : ℕ) : Type 0 where
-  pub first : cell twin k ≡ across
-  pub second : cell twin (k + 1) ≡ across + 3
-  pub third : cell twin (k + 2) ≡ across + 6
+-- the twins of a middle triangle: those across from it in three corner triangles one after the other
+pub record MiddleTriangle (twins : Three) (across : ℕ) : Type 0 where
+  pub first : twins .0 ≡ across
+  pub second : twins .1 ≡ across + 3
+  pub third : twins .2 ≡ across + 6
   pub small : across + 6 < most-small
   pub leaving : across % 3 ≡ 1
 

@@ -35,9 +35,6 @@ known-halves-requires-3 c κs = let p = c .before .before .before .pre .1 in (om
 join-twins-requires : tie.Need-join-twins-requires
 join-twins-requires c κs = search needs
 
-add-put : tie.Need-add-put
-add-put c = search needs
-
 put-requires : tie.Need-put-requires
 put-requires c κs = search needs
 
@@ -65,7 +62,6 @@ put-middle-spec =
     add-known-halves-5
     known-halves-requires-3
     join-twins-requires
-    add-put
     put-requires
     same-length
     returns)

@@ -5,11 +5,9 @@ use mathlib.Core.Path.{_≡_, refl, subst}
 use mathlib.Core.List.{List}
 use native.Mathlib.Nat.{add-zero, add-assoc}
 use native.Mathlib.Omega.{arith}
-use Rattle.laws.specs.Internal.Parts.{part}
 use Rattle.halfedges.specs.Cage.{NEXT}
-use Rattle.splitting.specs.NextLevel.{newTwin}
 use Rattle.splitting.specs.Internal.InPlace.{most-small}
-use Rattle.splitting.proofs.Triangles.{Filled, housed-as, filled-start, filled-long, filled-fits, twins-on, twins-done}
+use Rattle.splitting.proofs.Triangles.{TwinsFilled, filled-start, filled-long, twins-on, twins-done}
 use Rattle.splitting.proofs.Descent.{Cornered, way-round, quarter-whole, corner-there, corner-on, middle-there}
 use Rattle.splitting.proofs.above.twins_above.Statement.{statement}
 use Rattle.splitting.proofs.above.twins_above.Tie as tie
@@ -22,7 +20,7 @@ abbrev μ-loop : tie.MeasureT-loop
 
 -- from whatever table the first loop came
 abbrev Inv-loop2 : tie.InvT-loop2
-Inv-loop2 twin₀ at halfedges before corner middle₀ twin middle = (xs : List ℕ) → Filled halfedges at (newTwin (part xs at halfedges)) xs twin₀ (3 * before) → Filled halfedges at (newTwin (part xs at halfedges)) xs twin (3 * before + middle)
+Inv-loop2 twin₀ at halfedges before corner middle₀ twin middle = (xs : List ℕ) → TwinsFilled halfedges at xs twin₀ (3 * before) → TwinsFilled halfedges at xs twin (3 * before + middle)
 
 abbrev μ-loop2 : tie.MeasureT-loop2
 μ-loop2 twin₀ at halfedges before corner middle₀ twin middle = before - middle
@@ -33,7 +31,7 @@ module _ (s : tie.Start Inv-loop μ-loop Inv-loop2 μ-loop2) where
   quarter = s .args .level .halfedges / 4
 
   abbrev So-far : List ℕ → ℕ → Type 0
-  So-far = Filled (s .args .level .halfedges) (s .args .at) (newTwin (part (s .args .twin .now) (s .args .at) (s .args .level .halfedges))) (s .args .twin .now)
+  So-far = TwinsFilled (s .args .level .halfedges) (s .args .at) (s .args .twin .now)
 
   four : s .args .level .halfedges ≡ 4 * quarter
   four = quarter-whole (s .pre .0) (s .pre .2) .1
@@ -85,7 +83,7 @@ module _ (i : tie.In-loop2 Inv-loop μ-loop Inv-loop2 μ-loop2) where
   so-far = there (i .before)
 
 loop-holds : tie.Need-loop-holds Inv-loop μ-loop Inv-loop2 μ-loop2
-loop-holds c = record { filled = filled-start (c .before .pre .0) _; first = refl; within = omega arith }
+loop-holds c = record { filled = filled-start (c .before .pre .0); first = refl; within = omega arith }
 
 mul-across : tie.Need-mul-across Inv-loop μ-loop Inv-loop2 μ-loop2
 mul-across c = omega (arith, few (start c))
@@ -99,35 +97,34 @@ add-put-corner c = let i = c .before in omega (arith, few (start i), three i)
 put-corner-requires : tie.Need-put-corner-requires Inv-loop μ-loop Inv-loop2 μ-loop2
 put-corner-requires c κs =
     let i = c .before in
-    let f = i .before .loop .inv .filled in
-    (filled-fits (start i .pre .0) _ f (omega (arith, three i)), corner-there (start i .pre) f (i .loop-test .taken) _ _ refl (round i .0))
+    corner-there (start i .pre) (i .before .loop .inv .filled) (i .loop-test .taken) _ refl (round i .0)
 
 add-put-corner-2 : tie.Need-add-put-corner-2 Inv-loop μ-loop Inv-loop2 μ-loop2
 add-put-corner-2 c = let i = c .before .before .before .before .before in omega (arith, few (start i), three i)
 
-add-put-corner-3 : tie.Need-add-put-corner-3 Inv-loop μ-loop Inv-loop2 μ-loop2
-add-put-corner-3 c = let i = c .before .before .before .before .before in omega (arith, few (start i), three i)
+add-t17 : tie.Need-add-t17 Inv-loop μ-loop Inv-loop2 μ-loop2
+add-t17 c = let i = c .before .before .before .before .before in omega (arith, few (start i), three i)
 
-add-put-corner-4 : tie.Need-add-put-corner-4 Inv-loop μ-loop Inv-loop2 μ-loop2
-add-put-corner-4 c = let i = c .before .before .before .before .before in omega (arith, few (start i), three i)
+add-t18 : tie.Need-add-t18 Inv-loop μ-loop Inv-loop2 μ-loop2
+add-t18 c = let i = c .before .before .before .before .before in omega (arith, few (start i), three i)
 
 put-corner-requires-2 : tie.Need-put-corner-requires-2 Inv-loop μ-loop Inv-loop2 μ-loop2
 put-corner-requires-2 c κs =
     let f = one (c .before .before .before) in
     let i = c .before .before .before .before .before in
-    (filled-fits (start i .pre .0) _ f (omega (arith, three i)), corner-there (start i .pre) f (omega (arith, three i)) _ _ (omega arith) (round i .1))
+    corner-there (start i .pre) f (omega (arith, three i)) _ (omega arith) (round i .1)
 
-add-put-corner-5 : tie.Need-add-put-corner-5 Inv-loop μ-loop Inv-loop2 μ-loop2
-add-put-corner-5 c = let i = c .before .before .before .before .before .before .before .before .before in omega (arith, few (start i), three i)
+add-put-corner-3 : tie.Need-add-put-corner-3 Inv-loop μ-loop Inv-loop2 μ-loop2
+add-put-corner-3 c = let i = c .before .before .before .before .before .before .before .before .before in omega (arith, few (start i), three i)
 
-add-put-corner-6 : tie.Need-add-put-corner-6 Inv-loop μ-loop Inv-loop2 μ-loop2
-add-put-corner-6 c = let i = c .before .before .before .before .before .before .before .before .before in omega (arith, few (start i), three i)
+add-t18-2 : tie.Need-add-t18-2 Inv-loop μ-loop Inv-loop2 μ-loop2
+add-t18-2 c = let i = c .before .before .before .before .before .before .before .before .before in omega (arith, few (start i), three i)
 
 put-corner-requires-3 : tie.Need-put-corner-requires-3 Inv-loop μ-loop Inv-loop2 μ-loop2
 put-corner-requires-3 c κs =
     let f = two (c .before .before .before) in
     let i = c .before .before .before .before .before .before .before .before .before in
-    (filled-fits (start i .pre .0) _ f (omega (arith, three i)), corner-there (start i .pre) f (omega (arith, three i)) _ _ (omega arith) (round i .2))
+    corner-there (start i .pre) f (omega (arith, three i)) _ (omega arith) (round i .2)
 
 add-corner : tie.Need-add-corner Inv-loop μ-loop Inv-loop2 μ-loop2
 add-corner c = let i = c .before .before .before .before .before .before .before .before .before .before .before .before in omega (arith, few (start i), three i)
@@ -158,7 +155,7 @@ add-put-middle-2 c = let i = c .before in omega (arith, few (start2 i), i .loop2
 put-middle-requires : tie.Need-put-middle-requires Inv-loop μ-loop Inv-loop2 μ-loop2
 put-middle-requires c κs =
     let i = c .before in
-    (filled-fits (start2 i .pre .0) _ (so-far i) (omega (arith, four (start2 i), i .loop2-test .taken)), middle-there (start2 i .pre) (so-far i) (i .loop2-test .taken))
+    middle-there (start2 i .pre) (so-far i) (i .loop2-test .taken)
 
 add-middle : tie.Need-add-middle Inv-loop μ-loop Inv-loop2 μ-loop2
 add-middle c = let i = c .before .before .before .before in omega (arith, few (start2 i), i .loop2-test .taken)
@@ -170,13 +167,13 @@ loop2-again : tie.Need-loop2-again Inv-loop μ-loop Inv-loop2 μ-loop2
 loop2-again c xs f =
     let i = c .before .before .before .before in
     let g = i .before .loop2 .inv xs f in
-    simp (← add-assoc) (twins-on (housed-as (start2 i .pre .0) (so-far i) g) g (omega (arith, four (start2 i), i .loop2-test .taken)) refl refl (c .before .before .put-middle .ensures))
+    simp (← add-assoc) (twins-on g (omega (arith, four (start2 i), i .loop2-test .taken)) refl refl (c .before .before .put-middle .ensures))
 
 same-length : tie.Need-same-length Inv-loop μ-loop Inv-loop2 μ-loop2
-same-length c = filled-long (c .before .before .before .before .before .pre .0) _ (there (c .before))
+same-length c = filled-long (there (c .before))
 
 returns : tie.Need-returns Inv-loop μ-loop Inv-loop2 μ-loop2
-returns c = let s = c .before .before .before .before .before in twins-done (s .pre .0) (there (c .before)) (omega (arith, four s, c .loop2-test .left))
+returns c = let s = c .before .before .before .before .before in twins-done (there (c .before)) (omega (arith, four s, c .loop2-test .left))
 
 pub twins-above-spec : {M : Type 1} → statement M
 twins-above-spec =
@@ -192,11 +189,11 @@ twins-above-spec =
     add-put-corner
     put-corner-requires
     add-put-corner-2
-    add-put-corner-3
-    add-put-corner-4
+    add-t17
+    add-t18
     put-corner-requires-2
-    add-put-corner-5
-    add-put-corner-6
+    add-put-corner-3
+    add-t18-2
     put-corner-requires-3
     add-corner
     loop-less

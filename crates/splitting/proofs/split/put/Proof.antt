@@ -4,6 +4,9 @@ use Rattle.splitting.specs.Internal.InPlace.{setSplit}
 use Rattle.splitting.proofs.split.put.Statement.{statement}
 use Rattle.splitting.proofs.split.put.Tie as tie
 
+add-base : tie.Need-add-base
+add-base c = search needs
+
 mul-corner : tie.Need-mul-corner
 mul-corner c = search needs
 
@@ -52,6 +55,7 @@ pub put-spec : {M : Type 1} → statement M
 put-spec =
     tie.close
     (tie.spec
+    add-base
     mul-corner
     add-corner
     store-requires

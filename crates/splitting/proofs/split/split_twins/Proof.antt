@@ -1,24 +1,14 @@
 -- `split_twins` joins what `any_halves` answers of its three twins.
 use borrow.Author.Needs.{needs}
-use mathlib.Core.Path.{_∙_}
 use Rattle.splitting.specs.Internal.InPlace.{splitTwins}
 use Rattle.splitting.proofs.split.split_twins.Statement.{statement}
 use Rattle.splitting.proofs.split.split_twins.Tie as tie
 
-array-read-any-halves : tie.Need-array-read-any-halves
-array-read-any-halves c = search needs
-
 any-halves-requires : tie.Need-any-halves-requires
 any-halves-requires c κs = search needs
 
-array-read-any-halves-2 : tie.Need-array-read-any-halves-2
-array-read-any-halves-2 c = search needs
-
 any-halves-requires-2 : tie.Need-any-halves-requires-2
 any-halves-requires-2 c κs = search needs
-
-array-read-any-halves-3 : tie.Need-array-read-any-halves-3
-array-read-any-halves-3 c = search needs
 
 any-halves-requires-3 : tie.Need-any-halves-requires-3
 any-halves-requires-3 c κs = search needs
@@ -28,19 +18,14 @@ join-twins-requires c κs = search needs
 
 returns : tie.Need-returns
 unfolding splitTwins
-returns c =
-    let halves = c .before in
-    c .join-twins .ensures ∙ rw (halves .before .before .any-halves .ensures, halves .before .any-halves2 .ensures, halves .any-halves3 .ensures)
+returns c = let halves = c .before in rw (c .join-twins .ensures, halves .before .before .any-halves .ensures, halves .before .any-halves2 .ensures, halves .any-halves3 .ensures)
 
 pub split-twins-spec : {M : Type 1} → statement M
 split-twins-spec =
     tie.close
     (tie.spec
-    array-read-any-halves
     any-halves-requires
-    array-read-any-halves-2
     any-halves-requires-2
-    array-read-any-halves-3
     any-halves-requires-3
     join-twins-requires
     returns)

@@ -1,21 +1,17 @@
 -- `store` makes three stores.
 use borrow.Author.Needs.{needs}
-use lib.ListN.{length-set}
 use native.Mathlib.Omega.{arith}
+use mathlib.Core.Path.{refl}
+use lib.ListN.{length-set}
+use Rattle.splitting.specs.Internal.InPlace.{setThree}
 use Rattle.splitting.proofs.split.store.Statement.{statement}
 use Rattle.splitting.proofs.split.store.Tie as tie
-
-array-read-table : tie.Need-array-read-table
-array-read-table c = search needs
 
 mul-table : tie.Need-mul-table
 mul-table c = search needs
 
 slice-write-table : tie.Need-slice-write-table
 slice-write-table c = search needs
-
-array-read-table-2 : tie.Need-array-read-table-2
-array-read-table-2 c = search needs
 
 add-table : tie.Need-add-table
 add-table c = search needs
@@ -25,9 +21,6 @@ mul-table-2 c = search needs
 
 slice-write-table-2 : tie.Need-slice-write-table-2
 slice-write-table-2 c = simp length-set (omega arith)
-
-array-read-table-3 : tie.Need-array-read-table-3
-array-read-table-3 c = search needs
 
 add-table-2 : tie.Need-add-table-2
 add-table-2 c = search needs
@@ -42,20 +35,18 @@ same-length : tie.Need-same-length
 same-length c = search needs
 
 returns : tie.Need-returns
-returns c = search needs
+unfolding setThree
+returns c = refl
 
 pub store-spec : {M : Type 1} → statement M
 store-spec =
     tie.close
     (tie.spec
-    array-read-table
     mul-table
     slice-write-table
-    array-read-table-2
     add-table
     mul-table-2
     slice-write-table-2
-    array-read-table-3
     add-table-2
     mul-table-3
     slice-write-table-3
