@@ -1,5 +1,5 @@
--- Cells in front of a list: how a loop copies them there (`copied-more`, `copied-all`), where they then stand (`part-inFront`), and
--- that longer ones cover them (`inFront-over`). Assumes nothing.
+-- Cells in front of a list: how a loop copies them there (`copied-more`, `copied-all`, and `Copying` for what such a loop keeps),
+-- where they then stand (`part-inFront`), and that longer ones cover them (`inFront-over`). Assumes nothing.
 use Prim.Native.Nat.{ℕ, _+_, _-_, _≤_, _<_}
 use mathlib.Core.Path.{_≡_, sym, ap, _∙_}
 use mathlib.Core.List.{List, _++_}
@@ -7,7 +7,7 @@ use native.Mathlib.Nat.{zero-add}
 use native.Mathlib.Numerals.{add-one}
 use native.Mathlib.Omega.{arith}
 use lib.ListN.{length, getD, drop, set}
-use lib.Seq.{paste, paste-suc, take-length, take-append-seam, drop-append-add, drop-drop}
+use lib.Seq.{paste, paste-zero, paste-suc, length-paste, take-length, take-append-seam, drop-append-add, drop-drop}
 use Rattle.laws.specs.Internal.Parts.{part}
 use Rattle.laws.specs.Parts.{inFront}
 
@@ -31,3 +31,27 @@ module _ {A : Type 0} (cells xs : List A) where
       ∙ drop-append-add cells (drop (length cells) xs) (length more - length cells)
       ∙ drop-drop (length more - length cells) (length cells) xs
       ∙ ap (λ n. drop n xs) e)
+
+-- a loop that copies cells to the front of xs has come to the k-th
+pub record Copying {A : Type 0} (cells xs ys : List A) (k : ℕ) : Type 0 where
+  pub fits : length cells ≤ length xs
+  pub so-far : ys ≡ paste xs 0 cells k
+  pub within : k ≤ length cells
+
+pub copying-start : {A : Type 0} {cells xs : List A} → length cells ≤ length xs → Copying cells xs xs 0
+copying-start {A} {cells} {xs} l = record { fits = l; so-far = paste-zero xs 0 cells; within = omega arith }
+
+module _ {A : Type 0} {cells xs ys : List A} {k : ℕ} (c : Copying cells xs ys k) where
+  pub copying-long : length ys ≡ length xs
+  copying-long = ap length (c .so-far) ∙ length-paste xs 0 cells k (omega (arith, c .fits, c .within)) (c .within)
+
+  pub copying-on : {zs : List A} (z : A) → k < length cells → zs ≡ set ys k (getD cells k z) → Copying cells xs zs (k + 1)
+  copying-on z l e =
+      record {
+        fits = c .fits;
+        so-far = e ∙ ap (λ r. set r k (getD cells k z)) (c .so-far) ∙ copied-more cells xs k z (omega (arith, c .fits)) l;
+        within = omega arith;
+      }
+
+  pub copying-done : length cells ≤ k → ys ≡ inFront cells xs
+  copying-done l = c .so-far ∙ copied-all cells xs k (omega (arith, c .within))

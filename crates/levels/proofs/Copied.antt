@@ -1,5 +1,5 @@
--- A cage copied to the front of the lent tables: it stands there (`cage-there`) and can be refined in place (`copied-refinable`), and
--- its levels cover it (`levels-over`). Assumes nothing.
+-- A cage copied to the front of the lent tables: it fits (`cage-short`), stands there (`cage-there`) and can be refined in place
+-- (`copied-refinable`), and its levels cover it (`levels-over`). Assumes nothing.
 use Prim.Native.Nat.{ℕ, suc, _≤_}
 use mathlib.Core.Path.{_≡_}
 use mathlib.Core.List.{List}
@@ -13,8 +13,6 @@ use Rattle.laws.proofs.Parts.{length-inFront}
 use Rattle.laws.proofs.InFront.{part-inFront, inFront-over}
 use Rattle.laws.proofs.Sums.{sum-same, sum-grows}
 use Rattle.laws.proofs.EndToEnd.{length-endToEnd}
-use Rattle.halfedges.specs.Cage.{most-halfedges, most-depth}
-use Rattle.halfedges.specs.Internal.Counts.{AtMost}
 use Rattle.halfedges.specs.Counts.{countsAt, Hs, roomH}
 use Rattle.tables.specs.Tables.{Tables, tables}
 use Rattle.splitting.specs.NextLevel.{level}
@@ -24,11 +22,14 @@ use Rattle.levels.specs.Internal.Filling.{tablesInFront, Refinable}
 use Rattle.splitting.proofs.Soundness.{sound-at}
 
 -- the cage is part of the room
-pub cage-fits : (t : HalfedgeTable) (depth : ℕ) → t .halfedges ≤ roomH t depth
+cage-fits : (t : HalfedgeTable) (depth : ℕ) → t .halfedges ≤ roomH t depth
 unfolding countsAt
 cage-fits t depth = let g : sum 1 (Hs t) ≤ roomH t depth = sum-grows (Hs t) 1 (suc depth) (omega arith) in omega arith
 
-module _ (t : HalfedgeTable) (c x : Tables) (s : Sound t c) (depth : ℕ) where
+module _ {t : HalfedgeTable} {depth : ℕ} {c x : Tables} (r : Refinable t depth c x) where
+  abbrev s : Sound t c
+  s = r .sound
+
   module _ (cells xs : List ℕ) (e : length cells ≡ t .halfedges) where
     there : part (inFront cells xs) 0 (t .halfedges) ≡ cells
     there = rw (← e) (part-inFront cells xs)
@@ -45,17 +46,23 @@ module _ (t : HalfedgeTable) (c x : Tables) (s : Sound t c) (depth : ℕ) where
   unfolding tablesInFront
   cage-there = λ i. tables (there (c .twin) (x .twin) (s .twin-long) i) (there (c .vert) (x .vert) (s .vert-long) i) (there (c .edge) (x .edge) (s .edge-long) i)
 
-  pub copied-refinable : AtMost most-halfedges t → depth ≤ most-depth → roomH t depth ≤ length (x .twin) → roomH t depth ≤ length (x .vert) → roomH t depth ≤ length (x .edge) → Refinable t depth (tablesInFront c x)
+  pub copied-refinable : Refinable t depth (levelAt t 0 (tablesInFront c x)) (tablesInFront c x)
   unfolding tablesInFront
-  copied-refinable a d twins verts edges =
+  copied-refinable =
       record {
         sound = rw cage-there s;
-        small = a;
-        shallow = d;
-        twin-room = room (c .twin) (x .twin) (s .twin-long) twins;
-        vert-room = room (c .vert) (x .vert) (s .vert-long) verts;
-        edge-room = room (c .edge) (x .edge) (s .edge-long) edges;
+        small = r .small;
+        shallow = r .shallow;
+        twin-room = room (c .twin) (x .twin) (s .twin-long) (r .twin-room);
+        vert-room = room (c .vert) (x .vert) (s .vert-long) (r .vert-room);
+        edge-room = room (c .edge) (x .edge) (s .edge-long) (r .edge-room);
       }
+
+  -- a cage's table is no longer than the lent one
+  pub cage-short : (length (c .twin) ≤ length (x .twin)) × (length (c .vert) ≤ length (x .vert)) × (length (c .edge) ≤ length (x .edge))
+  cage-short =
+      let f = cage-fits t depth in
+      (omega (arith, s .twin-long, r .twin-room), omega (arith, s .vert-long, r .vert-room), omega (arith, s .edge-long, r .edge-room))
 
   pub levels-over : tablesInFront (levelsEndToEnd t (levelAt t 0 (tablesInFront c x)) depth) (tablesInFront c x) ≡ tablesInFront (levelsEndToEnd t c depth) x
   unfolding tablesInFront levelsEndToEnd

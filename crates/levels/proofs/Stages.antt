@@ -36,7 +36,7 @@ pub record Reached (t : HalfedgeTable) (depth : ℕ) (x y : Tables) (u : Halfedg
   pub offset : at ≡ sum d (Hs t)
   pub within : d ≤ depth
 
-module _ (t : HalfedgeTable) (depth : ℕ) (x : Tables) (r : Refinable t depth x) where
+module _ (t : HalfedgeTable) (depth : ℕ) (x : Tables) (r : Refinable t depth (levelAt t 0 x) x) where
   abbrev c : Tables
   c = levelAt t 0 x
 

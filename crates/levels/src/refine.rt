@@ -9,7 +9,7 @@ ghost use Rattle.halfedges.specs.Internal.Counts.{AtMost};
 ghost use Rattle.halfedges.specs.Counts.{roomH, counted};
 ghost use Rattle.tables.specs.Tables.{tables, countsFrom};
 ghost use Rattle.levels.specs.Refining.{shortTables, levelsEndToEnd, refineTablesVerdict, refineTables};
-ghost use Rattle.splitting.specs.Internal.InPlace.{Sound, levelAt};
+ghost use Rattle.splitting.specs.Internal.InPlace.{levelAt};
 ghost use Rattle.levels.specs.Internal.Filling.{Refinable, tablesInFront};
 use halfedges::answer::Answer;
 use halfedges::table::Counted;
@@ -26,7 +26,8 @@ pub fn fill_levels(
     cage: HalfedgeTable,
     depth: usize,
 )
-    requires { ⌜ Refinable cage depth (tables (now twin) (now vert) (now edge)) ⌝ }
+    requires { ⌜ Refinable cage depth (levelAt cage 0 (tables (now twin) (now vert) (now edge)))
+        (tables (now twin) (now vert) (now edge)) ⌝ }
     ensures { λ _.
         ⌜ tables (now (twin .exit)) (now (vert .exit)) (now (edge .exit))
         ≡ tablesInFront
@@ -76,18 +77,9 @@ pub fn refine_tables(
     if answer.number() != 0 {
         return Counted::refused(answer);
     }
-    let cage = counts_of(cage_twin, vertices);
-    fill(
-        cage_twin,
-        cage_vert,
-        cage_edge,
-        cage,
-        depth,
-        twin,
-        vert,
-        edge,
-    );
-    cage.count(depth)
+    let of = counts_of(cage_twin, vertices);
+    fill(cage_twin, cage_vert, cage_edge, of, depth, twin, vert, edge);
+    of.count(depth)
 }
 
 // H, E and V of a cage's tables.
@@ -120,12 +112,28 @@ fn plan(
     if cage.number() != 0 {
         return cage;
     }
-    let levels = counts_of(cage_twin, vertices).levels(depth);
+    let of = counts_of(cage_twin, vertices);
+    short_levels(of, depth, twin, vert, edge)
+}
+
+// The first of three lent tables that is shorter than a cage's levels 0 to depth, end to end.
+pub fn short_levels(
+    cage: HalfedgeTable,
+    depth: usize,
+    twin: &[u32],
+    vert: &[u32],
+    edge: &[u32],
+) -> Answer
+    requires { ⌜ (AtMost most-halfedges cage) × (depth ≤ most-depth) ⌝ }
+    ensures { λ r.
+        ⌜ told r ≡ first (shortTables (roomH cage depth) (tables (now (twin .entry)) (now (vert .entry)) (now (edge .entry)))) ⌝ }
+{
+    let levels = cage.levels(depth);
     short_table(levels.halfedge_room, twin, vert, edge)
 }
 
 // The first of three lent tables that is shorter than the room.
-pub fn short_table(room: usize, twin: &[u32], vert: &[u32], edge: &[u32]) -> Answer
+fn short_table(room: usize, twin: &[u32], vert: &[u32], edge: &[u32]) -> Answer
     ensures { λ r. ⌜ told r ≡ first (shortTables room (tables (now (twin .entry)) (now (vert .entry)) (now (edge .entry)))) ⌝ }
 {
     if twin.len() < room {
@@ -151,10 +159,8 @@ pub fn fill(
     vert: &mut [u32],
     edge: &mut [u32],
 )
-    requires { ⌜ Sound cage (tables (now «cage_twin») (now «cage_vert») (now «cage_edge»)) ⌝ }
-    requires { ⌜ (AtMost most-halfedges cage) × (depth ≤ most-depth) ⌝ }
-    requires { ⌜ (roomH cage depth ≤ length (now twin)) × (roomH cage depth ≤ length (now vert))
-        × (roomH cage depth ≤ length (now edge)) ⌝ }
+    requires { ⌜ Refinable cage depth (tables (now «cage_twin») (now «cage_vert») (now «cage_edge»))
+        (tables (now twin) (now vert) (now edge)) ⌝ }
     ensures { λ _.
         ⌜ tables (now (twin .exit)) (now (vert .exit)) (now (edge .exit))
         ≡ tablesInFront

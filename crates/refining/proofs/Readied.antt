@@ -1,7 +1,7 @@
--- The tables of all levels, and a table with the cage's points in front, are ready for the points of all levels (`readied`), which
--- cover the cage's (`covered`). Assumes nothing.
+-- The tables of all levels, and a table with the cage's points in front, are ready for the points of all levels (`readied`), and
+-- these are the outcome (`outcome`). Assumes nothing.
 use Prim.Native.Nat.{ℕ, zero, suc, _*_, _≤_}
-use mathlib.Core.Path.{_≡_, sym, subst}
+use mathlib.Core.Path.{_≡_, sym, subst, _∙_}
 use mathlib.Core.List.{List}
 use native.Mathlib.Omega.{arith}
 use lib.IntN.{ℤ}
@@ -15,8 +15,9 @@ use Rattle.laws.proofs.Sums.{sum-grows}
 use Rattle.laws.proofs.Tabulate.{length-tabulate}
 use Rattle.laws.proofs.EndToEnd.{part-of, starts-within, length-multiples}
 use Rattle.halfedges.specs.declared.table.HalfedgeTable.{HalfedgeTable}
-use Rattle.halfedges.specs.Refusals.{DONE}
-use Rattle.halfedges.specs.Counts.{countsAt, Vs, roomV}
+use Rattle.halfedges.specs.declared.table.Levels.{Levels}
+use Rattle.halfedges.specs.Refusals.{DONE, Said}
+use Rattle.halfedges.specs.Counts.{countsAt, Vs, roomV, countQuestion}
 use Rattle.tables.specs.Tables.{Tables, tables, countsOf}
 use Rattle.splitting.specs.NextLevel.{level}
 use Rattle.splitting.specs.Internal.InPlace.{Sound}
@@ -24,11 +25,11 @@ use Rattle.levels.specs.Internal.Filling.{tablesInFront}
 use Rattle.levels.specs.Refining.{levelsEndToEnd}
 use Rattle.levels.proofs.Granted.{Granted, granted}
 use Rattle.points.specs.NextPoints.{corners, nextPoints, levelPoints}
-use Rattle.points.specs.Operations.{vertices, refineVerdict}
+use Rattle.points.specs.Operations.{vertices, refineVerdict, refineCage}
 use Rattle.points.specs.Internal.Relied.{Known}
 use Rattle.passes.specs.Internal.Levels.{ReadyLevels, cageOf, withLevels}
 use Rattle.refining.proofs.Relying.{relied, known}
-use Rattle.refining.proofs.Refined.{whole, tables-done, in-range, both-done, points-roomy}
+use Rattle.refining.proofs.Refined.{whole, tables-done, in-range, both-done, points-roomy, refine-done}
 
 module _ (t : HalfedgeTable) (c : Tables) (s : Sound t c) (depth : ℕ) (x : Tables) where
   -- one table: its levels f, of which the first has H cells
@@ -65,9 +66,9 @@ module _ (c : Tables) (points : List ℤ) (depth : ℕ) (x : Tables) (xp : List 
   points-there = rw threes (part-inFront points xp)
 
   -- the cage's points are part of the room
-  pub points-fit : length points ≤ 3 * roomV t depth
+  cage-points-fit : length points ≤ 3 * roomV t depth
   unfolding countsAt
-  points-fit = let w : sum 1 (Vs t) ≤ roomV t depth = sum-grows (Vs t) 1 (suc depth) (omega arith) in omega (arith, threes)
+  cage-points-fit = let w : sum 1 (Vs t) ≤ roomV t depth = sum-grows (Vs t) 1 (suc depth) (omega arith) in omega (arith, threes)
 
   ready : ReadyLevels t depth (tablesInFront (levelsEndToEnd t c depth) x) (inFront points xp)
   unfolding tablesInFront
@@ -84,7 +85,7 @@ module _ (c : Tables) (points : List ℤ) (depth : ℕ) (x : Tables) (xp : List 
             subst (λ q. Known (tabulate (vertices points) (λ u. length (corners (q .vert) u))) (level t q d .twin) (level t q d .vert) (Vs t d)) (sym (cage-there t c (g .sound) depth x))
             (known c (vertices points) depth (tables-done c points depth (both-done c points depth x xp e .0)) d (omega (arith, g .shallow)));
         in-range = rw points-there (in-range c points depth (both-done c points depth x xp e .0));
-        room = rw (length-inFront points xp (omega (arith, points-fit, points-roomy c points depth x xp e))) (points-roomy c points depth x xp e);
+        room = rw (length-inFront points xp (omega (arith, cage-points-fit, points-roomy c points depth x xp e))) (points-roomy c points depth x xp e);
       }
 
   level-long : (d : ℕ) → length (levelPoints t c points d) ≡ 3 * Vs t d
@@ -97,12 +98,19 @@ module _ (c : Tables) (points : List ℤ) (depth : ℕ) (x : Tables) (xp : List 
   levels-over =
       rw (cage-there t c (g .sound) depth x, points-there)
       (inFront-over points xp (endToEnd (suc depth) (levelPoints t c points))
-      (omega (arith, points-fit, length-multiples 3 (levelPoints t c points) (Vs t) (suc depth) (λ d l. level-long d))))
+      (omega (arith, cage-points-fit, length-multiples 3 (levelPoints t c points) (Vs t) (suc depth) (λ d l. level-long d))))
 
-  -- what is ready, and what covers it, with the counts, tables and points as the code has them
-  module _ {u : HalfedgeTable} {y : Tables} {z : List ℤ} (p : u ≡ t) (q : y ≡ tablesInFront (levelsEndToEnd t c depth) x) (r : z ≡ inFront points xp) where
+  -- the cage's points can be copied
+  pub points-fit : length points ≤ length xp
+  points-fit = omega (arith, cage-points-fit, points-roomy c points depth x xp e)
+
+  -- what is ready and the outcome, with the counts, tables and points as the code has them
+  module _ {u : HalfedgeTable} {y : Tables} {z : List ℤ} (p : u ≡ t) (q : y ≡ tablesInFront (levelsEndToEnd u c depth) x) (r : z ≡ inFront points xp) where
     pub readied : ReadyLevels u depth y z
-    readied = rw (p, q, r) ready
+    readied = rw (q, p, r) ready
 
-    pub covered : withLevels u depth y z ≡ inFront (endToEnd (suc depth) (levelPoints t c points)) xp
-    covered = rw (p, q, r) levels-over
+    pub outcome : {k : Said Levels} {ps : List ℤ} → k ≡ countQuestion u depth → ps ≡ withLevels u depth y z → (k ≡ refineCage c points depth x xp .answer) × (y ≡ refineCage c points depth x xp .lent) × (ps ≡ refineCage c points depth x xp .points)
+    outcome f g =
+        let d = refine-done c points depth x xp e in
+        let w : y ≡ tablesInFront (levelsEndToEnd t c depth) x = rw p at q in
+        (rw p at f ∙ d .0, w ∙ d .1, g ∙ rw (w, p, r) levels-over ∙ d .2)

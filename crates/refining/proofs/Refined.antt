@@ -1,8 +1,8 @@
--- What a cage has where checks 1 to 8 are done (`whole`, `tables-done`, `in-range`); the verdict of refining, as the code goes
--- (`cage-refused`, `tables-short`, `points-short`, `all-roomy`); what it leaves where it is done (`both-done`, `tables-roomy`,
--- `points-roomy`); and the outcome (`refine-refused`, `refine-done`). Assumes nothing.
+-- What a cage has where checks 1 to 8 are done (`whole`, `tables-done`, `in-range`, `counts-granted`); the verdict of refining, as
+-- the code goes (`cage-refused`, `tables-short`, `points-short`, `all-roomy`); what it leaves where it is done (`both-done`,
+-- `all-refinable`, `points-roomy`); and the outcome (`refine-refused`, `refine-done`). Assumes nothing.
 use Prim.Native.Nat.{ℕ, suc, _*_, _%_, _≤_, _<_}
-use mathlib.Core.Path.{_≡_, refl, sym, _∙_}
+use mathlib.Core.Path.{_≡_, refl, sym, ap, _∙_}
 use mathlib.Core.Logic.{_≢_}
 use mathlib.Core.List.{List, [], _∷_}
 use native.Mathlib.Omega.{arith}
@@ -14,20 +14,21 @@ use Rattle.laws.specs.Parts.{inFront}
 use Rattle.laws.proofs.Tests.{or-false}
 use Rattle.laws.proofs.Sums.{sum-at-most}
 use Rattle.halfedges.specs.declared.table.HalfedgeTable.{HalfedgeTable}
+use Rattle.halfedges.specs.declared.table.Levels.{Levels}
 use Rattle.halfedges.specs.Cage.{most-halfedges, most-depth}
 use Rattle.halfedges.specs.declared.answer.Answer.{Answer}
 use Rattle.halfedges.specs.Refusals.{Verdict, DONE, SHAPE, POINT, ROOM, told, given, givenAt, short, first, said, filled}
 use Rattle.halfedges.specs.Internal.Counts.{AtMost, refusedCount}
-use Rattle.halfedges.specs.Counts.{Vs, roomH, roomV, countQuestion}
+use Rattle.halfedges.specs.Counts.{Vs, roomH, roomV, levels, countQuestion}
 use Rattle.halfedges.proofs.Growth.{levels-at-most}
 use Rattle.halfedges.proofs.Checks.{first-more, first-stops, done-both, done-passes, done-nowhere}
 use Rattle.halfedges.proofs.Told.{zero-done}
 use Rattle.tables.specs.Tables.{Tables, countsOf}
 use Rattle.tables.specs.Rules.{misshapen}
-use Rattle.levels.specs.Internal.Filling.{tablesInFront}
+use Rattle.levels.specs.Internal.Filling.{tablesInFront, Refinable}
 use Rattle.tables.specs.Check.{tableChecks}
 use Rattle.levels.specs.Refining.{shortTables, filledTables, levelsEndToEnd}
-use Rattle.levels.proofs.Granted.{granted}
+use Rattle.levels.proofs.Granted.{granted, refinable}
 use Rattle.points.specs.NextPoints.{levelPoints}
 use Rattle.points.specs.Operations.{vertices, outOfRange, cageChecks, refineVerdict, refineCage}
 use Rattle.points.specs.Operations.{InRange}
@@ -49,9 +50,23 @@ module _ (c : Tables) (points : List ℤ) (depth : ℕ) (e : first (cageChecks c
   in-range i l = ltb-false _ _ (done-nowhere (length points) (outOfRange points) POINT [] (λ k. refl) (parts .1) .0 i l)
 
 -- the vertices of seven levels are no large number
-pub few-vertices : (t : HalfedgeTable) (depth : ℕ) → AtMost most-halfedges t → depth ≤ most-depth → roomV t depth ≤ 88080384
-few-vertices t depth a l =
-    omega (arith, sum-at-most (suc depth) 12582912 (Vs t) (λ d m. let b = levels-at-most most-halfedges 6 t a d (omega arith) in omega (arith, b .vertices)))
+pub few-vertices : (t : HalfedgeTable) (depth : ℕ) {l : Levels} → AtMost most-halfedges t × depth ≤ most-depth → l ≡ levels t depth → l .«vertex_room» ≤ 88080384
+unfolding levels
+few-vertices t depth a e =
+    rw e (omega (arith, sum-at-most (suc depth) 12582912 (Vs t) (λ d m. let b = levels-at-most most-halfedges 6 t (a .0) d (omega (arith, a .1)) in omega (arith, b .vertices))))
+
+-- a tells the first of 1 to 8
+module _ (c : Tables) (points : List ℤ) (depth : ℕ) (a : Answer) {n : ℕ} (e : told a ≡ first (cageChecks c points depth)) (m : n ≡ told a .number) where
+  pub cage-refused : (x : Tables) (xp : List ℤ) → n ≢ 0 → told a ≡ refineVerdict c points depth x xp
+  unfolding refineVerdict
+  cage-refused x xp r = first-stops _ _ (told a) e (λ z. r (m ∙ z))
+
+  pub cage-done : n ≡ 0 → first (cageChecks c points depth) ≡ DONE
+  cage-done z = sym e ∙ zero-done a (sym m ∙ z)
+
+-- what then holds of the counts
+pub counts-granted : (c : Tables) (points : List ℤ) (depth : ℕ) → first (cageChecks c points depth) ≡ DONE → {u : HalfedgeTable} → u ≡ countsOf c (vertices points) → AtMost most-halfedges u × depth ≤ most-depth
+counts-granted c points depth d p = let g = granted c (vertices points) depth (tables-done c points depth d) in rw p (g .small, g .shallow)
 
 module _ (c : Tables) (points : List ℤ) (depth : ℕ) (x : Tables) (xp : List ℤ) where
   abbrev rooms : List Verdict
@@ -60,46 +75,46 @@ module _ (c : Tables) (points : List ℤ) (depth : ℕ) (x : Tables) (xp : List 
   abbrev last : List Verdict
   last = short 4 (3 * roomV (countsOf c (vertices points)) depth) (length xp) ∷ []
 
-  -- a tells the first of 1 to 8
-  module _ (a : Answer) {n : ℕ} (e : told a ≡ first (cageChecks c points depth)) (m : n ≡ told a .number) where
-    pub cage-refused : n ≢ 0 → told a ≡ refineVerdict c points depth x xp
-    unfolding refineVerdict
-    cage-refused r = first-stops _ _ (told a) e (λ z. r (m ∙ z))
+  -- where 1 to 8 pass, b tells the first short table of the three, with the counts as the code has them
+  module _ (d : first (cageChecks c points depth) ≡ DONE) {u : HalfedgeTable} (p : u ≡ countsOf c (vertices points)) (b : Answer) {n : ℕ} (e : told b ≡ first (shortTables (roomH u depth) x)) (m : n ≡ told b .number) where
+    short-told : told b ≡ first rooms
+    short-told = e ∙ ap (λ (t : HalfedgeTable). first (shortTables (roomH t depth) x)) p
 
-    pub cage-done : n ≡ 0 → first (cageChecks c points depth) ≡ DONE
-    cage-done z = sym e ∙ zero-done a (sym m ∙ z)
-
-  -- where 1 to 8 pass, b tells the first short table of the three
-  module _ (d : first (cageChecks c points depth) ≡ DONE) (b : Answer) {n : ℕ} (e : told b ≡ first rooms) (m : n ≡ told b .number) where
     pub tables-short : n ≢ 0 → told b ≡ refineVerdict c points depth x xp
     unfolding refineVerdict
-    tables-short r = first-stops rooms last (told b) e (λ z. r (m ∙ z)) ∙ sym (first-more (cageChecks c points depth) _ d)
+    tables-short r = first-stops rooms last (told b) short-told (λ z. r (m ∙ z)) ∙ sym (first-more (cageChecks c points depth) _ d)
 
-    module _ (z : n ≡ 0) where
+    module _ (z : n ≡ 0) {l : Levels} (q : l ≡ levels u depth) where
       room-left : first last ≡ refineVerdict c points depth x xp
       unfolding refineVerdict
-      room-left = sym (first-more (cageChecks c points depth) _ d ∙ first-more rooms last (sym e ∙ zero-done b (sym m ∙ z)))
+      room-left = sym (first-more (cageChecks c points depth) _ d ∙ first-more rooms last (sym short-told ∙ zero-done b (sym m ∙ z)))
 
-      pub points-short : length xp < 3 * roomV (countsOf c (vertices points)) depth → ROOM 4 ≡ refineVerdict c points depth x xp
-      unfolding short given first
-      points-short l = rw (lt-ltb (length xp) (3 * roomV (countsOf c (vertices points)) depth) l) at room-left
+      point-room : l .«vertex_room» ≡ roomV (countsOf c (vertices points)) depth
+      unfolding levels
+      point-room = ap (λ (k : Levels). k .«vertex_room») q ∙ ap (λ (t : HalfedgeTable). roomV t depth) p
 
-      pub all-roomy : 3 * roomV (countsOf c (vertices points)) depth ≤ length xp → DONE ≡ refineVerdict c points depth x xp
+      pub points-short : length xp < 3 * l .«vertex_room» → ROOM 4 ≡ refineVerdict c points depth x xp
       unfolding short given first
-      all-roomy l = rw (le-ltb (length xp) (3 * roomV (countsOf c (vertices points)) depth) l) at room-left
+      points-short w = rw (lt-ltb (length xp) (3 * roomV (countsOf c (vertices points)) depth) (rw point-room at w)) at room-left
+
+      pub all-roomy : 3 * l .«vertex_room» ≤ length xp → DONE ≡ refineVerdict c points depth x xp
+      unfolding short given first
+      all-roomy w = rw (le-ltb (length xp) (3 * roomV (countsOf c (vertices points)) depth) (rw point-room at w)) at room-left
 
   module _ (e : refineVerdict c points depth x xp ≡ DONE) where
     pub both-done : (first (cageChecks c points depth) ≡ DONE) × (first rooms ≡ DONE) × (first last ≡ DONE)
     unfolding refineVerdict
     both-done = let p = done-both (cageChecks c points depth) _ e in let q = done-both rooms last (p .1) in (p .0, q .0, q .1)
 
-    pub tables-roomy : (roomH (countsOf c (vertices points)) depth ≤ length (x .twin)) × (roomH (countsOf c (vertices points)) depth ≤ length (x .vert)) × (roomH (countsOf c (vertices points)) depth ≤ length (x .edge))
+    -- the tables can be filled in
+    pub all-refinable : {u : HalfedgeTable} → u ≡ countsOf c (vertices points) → Refinable u depth c x
     unfolding shortTables short
-    tables-roomy =
-        let p = done-passes _ (ROOM 1) _ refl (both-done .1) in
-        let q = done-passes _ (ROOM 2) _ refl (p .1) in
-        let r = done-passes _ (ROOM 3) _ refl (q .1) in
-        (ltb-false _ _ (p .0), ltb-false _ _ (q .0), ltb-false _ _ (r .0))
+    all-refinable p =
+        let g = granted c (vertices points) depth (tables-done c points depth (both-done .0)) in
+        let t = done-passes _ (ROOM 1) _ refl (both-done .1) in
+        let v = done-passes _ (ROOM 2) _ refl (t .1) in
+        let w = done-passes _ (ROOM 3) _ refl (v .1) in
+        rw p (refinable g (ltb-false _ _ (t .0), ltb-false _ _ (v .0), ltb-false _ _ (w .0)))
 
     pub points-roomy : 3 * roomV (countsOf c (vertices points)) depth ≤ length xp
     unfolding short

@@ -11,7 +11,7 @@ use halfedges::answer::Answer;
 use halfedges::table::Counted;
 use levels::refine::counts_of;
 use levels::refine::fill;
-use levels::refine::short_table;
+use levels::refine::short_levels;
 use passes::refine::refine_points;
 
 // Refines a cage into four lent tables: all checks first, then the tables, then the points above them.
@@ -47,20 +47,11 @@ pub fn refine(
     if answer.number() != 0 {
         return Counted::refused(answer);
     }
-    let table = counts_of(cage_twin, cage_points.len() / 3);
-    fill(
-        cage_twin,
-        cage_vert,
-        cage_edge,
-        table,
-        depth,
-        twin,
-        vert,
-        edge,
-    );
+    let of = counts_of(cage_twin, cage_points.len() / 3);
+    fill(cage_twin, cage_vert, cage_edge, of, depth, twin, vert, edge);
     copy(cage_points, points);
-    refine_points(table, depth, twin, vert, edge, points);
-    table.count(depth)
+    refine_points(of, depth, twin, vert, edge, points);
+    of.count(depth)
 }
 
 // Checks 1 to 8 of any cage, and then the room of the lent tables.
@@ -84,11 +75,12 @@ fn plan(
     if cage.number() != 0 {
         return cage;
     }
-    let levels = counts_of(cage_twin, cage_points.len() / 3).levels(depth);
-    let short = short_table(levels.halfedge_room, twin, vert, edge);
+    let of = counts_of(cage_twin, cage_points.len() / 3);
+    let short = short_levels(of, depth, twin, vert, edge);
     if short.number() != 0 {
         return short;
     }
+    let levels = of.levels(depth);
     if points.len() < 3 * levels.vertex_room {
         return Answer::Room(4);
     }

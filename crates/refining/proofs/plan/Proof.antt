@@ -1,57 +1,20 @@
 -- `plan` goes through 1 to 8, the room of the three tables, and that of the points.
 use borrow.Author.Needs.{needs}
-use mathlib.Core.Path.{_≡_, ap, _∙_}
-use mathlib.Core.List.{List}
+use mathlib.Core.Path.{_≡_}
 use native.Mathlib.Omega.{arith}
-use lib.IntN.{ℤ}
-use Rattle.halfedges.specs.declared.table.Levels.{Levels}
-use Rattle.halfedges.specs.Refusals.{DONE, told, first}
-use Rattle.halfedges.specs.Counts.{roomH, roomV, levels}
-use Rattle.tables.specs.Tables.{Tables, tables, countsOf}
-use Rattle.levels.specs.Refining.{shortTables}
-use Rattle.levels.proofs.Granted.{Granted, granted}
-use Rattle.points.specs.Operations.{vertices, cageChecks}
-use Rattle.refining.proofs.Refined.{tables-done, few-vertices, cage-refused, cage-done, tables-short, points-short, all-roomy}
+use Rattle.halfedges.specs.Refusals.{DONE, first}
+use Rattle.tables.specs.Tables.{tables}
+use Rattle.points.specs.Operations.{cageChecks}
+use Rattle.refining.proofs.Refined.{few-vertices, cage-refused, cage-done, counts-granted, tables-short, points-short, all-roomy}
 use Rattle.refining.proofs.plan.Statement.{statement}
 use Rattle.refining.proofs.plan.Tie as tie
 
--- what is handed over and lent
-module _ (s : tie.Start) where
-  abbrev cage : Tables
-  cage = tables (s .args .cage-twin .now) (s .args .cage-vert .now) (s .args .cage-edge .now)
-
-  abbrev points : List ℤ
-  points = s .args .cage-points .now
-
-  abbrev lent : Tables
-  lent = tables (s .args .twin .now) (s .args .vert .now) (s .args .edge .now)
-
 -- where 1 to 8 are passed
-module _ (i : tie.Else1) where
-  abbrev start : tie.Start
-  start = i .before .before .before .before .before .before .before .before .before
+abbrev start : tie.Else1 → tie.Start
+start i = i .before .before .before .before .before .before .before .before .before
 
-  passed : first (cageChecks (cage start) (points start) (start .args .depth)) ≡ DONE
-  passed = let k = i .before .before in cage-done (cage start) (points start) (start .args .depth) (lent start) (start .args .points .now) (k .check-for-depth .result) (k .check-for-depth .ensures) (i .before .number .ensures) (i .if1 .left)
-
-  fine : Granted (cage start) (vertices (points start)) (start .args .depth)
-  fine = granted (cage start) (vertices (points start)) (start .args .depth) (tables-done (cage start) (points start) (start .args .depth) passed)
-
--- where the levels are counted and the three tables looked at
-module _ (t : tie.After-short-table) where
-  abbrev before : tie.Else1
-  before = t .before .before .before
-
-  counted : t .before .levels .result ≡ levels (countsOf (cage (start before)) (vertices (points (start before)))) (start before .args .depth)
-  counted = t .before .levels .ensures ∙ ap (λ u. levels u (start before .args .depth)) (t .before .before .counts-of .ensures)
-
-  short-told : told (t .short-table .result) ≡ first (shortTables (roomH (countsOf (cage (start before)) (vertices (points (start before)))) (start before .args .depth)) (lent (start before)))
-  unfolding levels
-  short-told = t .short-table .ensures ∙ ap (λ (l : Levels). first (shortTables (l .«halfedge_room») (lent (start before)))) counted
-
-  point-room : t .before .levels .result .«vertex_room» ≡ roomV (countsOf (cage (start before)) (vertices (points (start before)))) (start before .args .depth)
-  unfolding levels
-  point-room = ap (λ (l : Levels). l .«vertex_room») counted
+passed : (i : tie.Else1) → let s = start i .args in first (cageChecks (tables (s .cage-twin .now) (s .cage-vert .now) (s .cage-edge .now)) (s .cage-points .now) (s .depth)) ≡ DONE
+passed i = let k = i .before .before in cage-done _ _ _ (k .check-for-depth .result) (k .check-for-depth .ensures) (i .before .number .ensures) (i .if1 .left)
 
 check-for-depth-requires : tie.Need-check-for-depth-requires
 check-for-depth-requires c κs = search needs
@@ -60,37 +23,47 @@ number-requires : tie.Need-number-requires
 number-requires c κs = search needs
 
 returns : tie.Need-returns
-returns c = cage-refused _ _ _ _ _ (c .before .before .check-for-depth .result) (c .before .before .check-for-depth .ensures) (c .before .number .ensures) (c .if1 .taken)
+returns c = let k = c .before .before in cage-refused _ _ _ (k .check-for-depth .result) (k .check-for-depth .ensures) (c .before .number .ensures) _ _ (c .if1 .taken)
 
 counts-of-requires : tie.Need-counts-of-requires
 counts-of-requires c κs = search needs
 
-levels-requires : tie.Need-levels-requires
-levels-requires c κs = rw (c .counts-of .ensures) (fine (c .before) .small, fine (c .before) .shallow)
-
-short-table-requires : tie.Need-short-table-requires
-short-table-requires c κs = search needs
+short-levels-requires : tie.Need-short-levels-requires
+short-levels-requires c κs = counts-granted _ _ _ (passed (c .before)) (c .counts-of .ensures)
 
 number-requires-2 : tie.Need-number-requires-2
 number-requires-2 c κs = search needs
 
 returns-2 : tie.Need-returns-2
-returns-2 c = let t = c .before .before in tables-short _ _ _ _ _ (passed (before t)) (t .short-table .result) (short-told t) (c .before .number2 .ensures) (c .if2 .taken)
+returns-2 c =
+    let t = c .before .before in
+    let k = t .before in
+    tables-short _ _ _ _ _ (passed (k .before)) (k .counts-of .ensures) (t .short-levels .result) (t .short-levels .ensures) (c .before .number2 .ensures) (c .if2 .taken)
+
+levels-requires : tie.Need-levels-requires
+levels-requires c κs = let k = c .before .before .before in counts-granted _ _ _ (passed (k .before)) (k .counts-of .ensures)
 
 mul-if3 : tie.Need-mul-if3
-mul-if3 c = let t = c .before .before .before in omega (arith, few-vertices _ _ (fine (before t) .small) (fine (before t) .shallow), point-room t)
+mul-if3 c =
+    let l = c .before in
+    let k = l .before .before .before .before in
+    omega (arith, few-vertices _ _ (counts-granted _ _ _ (passed (k .before)) (k .counts-of .ensures)) (l .levels .ensures))
 
 returns-3 : tie.Need-returns-3
 returns-3 c =
-    let e = c .before .before in
+    let l = c .before .before in
+    let e = l .before in
     let t = e .before .before in
-    points-short _ _ _ _ _ (passed (before t)) (t .short-table .result) (short-told t) (e .before .number2 .ensures) (e .if2 .left) (omega (arith, c .if3 .taken, point-room t))
+    let k = t .before in
+    points-short _ _ _ _ _ (passed (k .before)) (k .counts-of .ensures) (t .short-levels .result) (t .short-levels .ensures) (e .before .number2 .ensures) (e .if2 .left) (l .levels .ensures) (c .if3 .taken)
 
 returns-4 : tie.Need-returns-4
 returns-4 c =
-    let e = c .before .before in
+    let l = c .before .before in
+    let e = l .before in
     let t = e .before .before in
-    all-roomy _ _ _ _ _ (passed (before t)) (t .short-table .result) (short-told t) (e .before .number2 .ensures) (e .if2 .left) (omega (arith, c .if3 .left, point-room t))
+    let k = t .before in
+    all-roomy _ _ _ _ _ (passed (k .before)) (k .counts-of .ensures) (t .short-levels .result) (t .short-levels .ensures) (e .before .number2 .ensures) (e .if2 .left) (l .levels .ensures) (c .if3 .left)
 
 pub plan-spec : {M : Type 1} → statement M
 plan-spec =
@@ -100,10 +73,10 @@ plan-spec =
     number-requires
     returns
     counts-of-requires
-    levels-requires
-    short-table-requires
+    short-levels-requires
     number-requires-2
     returns-2
+    levels-requires
     mul-if3
     returns-3
     returns-4)

@@ -1,40 +1,20 @@
 -- `refine` answers its checks, and else fills in the tables and the points above them.
 use borrow.Author.Needs.{needs}
-use mathlib.Core.Path.{_≡_, ap, _∙_}
-use mathlib.Core.List.{List}
-use native.Mathlib.Omega.{arith}
-use lib.IntN.{ℤ}
-use Rattle.halfedges.specs.declared.table.HalfedgeTable.{HalfedgeTable}
+use mathlib.Core.Path.{_≡_, _∙_}
 use Rattle.halfedges.specs.Refusals.{DONE}
-use Rattle.halfedges.specs.Counts.{countQuestion}
-use Rattle.tables.specs.Tables.{Tables, tables}
-use Rattle.levels.specs.Internal.Filling.{tablesInFront}
-use Rattle.levels.specs.Refining.{levelsEndToEnd}
-use Rattle.levels.proofs.Granted.{granted}
-use Rattle.points.specs.Operations.{vertices, refineVerdict}
-use Rattle.refining.proofs.Refined.{tables-done, both-done, tables-roomy, points-roomy, told-done, refine-refused, refine-done}
-use Rattle.refining.proofs.Readied.{points-fit, readied, covered}
+use Rattle.tables.specs.Tables.{tables}
+use Rattle.points.specs.Operations.{refineVerdict}
+use Rattle.refining.proofs.Refined.{all-refinable, told-done, refine-refused}
+use Rattle.refining.proofs.Readied.{points-fit, readied, outcome}
 use Rattle.refining.proofs.refine.Statement.{statement}
 use Rattle.refining.proofs.refine.Tie as tie
 
--- what is handed over and lent
-module _ (s : tie.Start) where
-  abbrev cage : Tables
-  cage = tables (s .args .cage-twin .now) (s .args .cage-vert .now) (s .args .cage-edge .now)
-
-  abbrev points : List ℤ
-  points = s .args .cage-points .now
-
-  abbrev lent : Tables
-  lent = tables (s .args .twin .now) (s .args .vert .now) (s .args .edge .now)
-
 -- where the plan is done
-module _ (i : tie.Else1) where
-  abbrev start : tie.Start
-  start = i .before .before .before .before .before .before .before .before .before .before .before .before .before
+abbrev start : tie.Else1 → tie.Start
+start i = i .before .before .before .before .before .before .before .before .before .before .before .before .before
 
-  done : refineVerdict (cage start) (points start) (start .args .depth) (lent start) (start .args .points .now) ≡ DONE
-  done = let p = i .before .before in told-done (cage start) (points start) (start .args .depth) (lent start) (start .args .points .now) (p .plan .result) (p .plan .ensures) (i .before .number .ensures) (i .if1 .left)
+done : (i : tie.Else1) → let s = start i .args in refineVerdict (tables (s .cage-twin .now) (s .cage-vert .now) (s .cage-edge .now)) (s .cage-points .now) (s .depth) (tables (s .twin .now) (s .vert .now) (s .edge .now)) (s .points .now) ≡ DONE
+done i = let p = i .before .before in told-done _ _ _ _ _ (p .plan .result) (p .plan .ensures) (i .before .number .ensures) (i .if1 .left)
 
 plan-requires : tie.Need-plan-requires
 plan-requires c κs = search needs
@@ -67,25 +47,16 @@ counts-of-requires : tie.Need-counts-of-requires
 counts-of-requires c κs = search needs
 
 fill-requires : tie.Need-fill-requires
-fill-requires c κs =
-    let i = c .before .before .before .before in
-    let s = start i in
-    let g = granted (cage s) (vertices (points s)) (s .args .depth) (tables-done (cage s) (points s) (s .args .depth) (both-done (cage s) (points s) (s .args .depth) (lent s) (s .args .points .now) (done i) .0)) in
-    rw (c .before .before .before .counts-of .ensures) (g .sound, ((g .small, g .shallow), tables-roomy (cage s) (points s) (s .args .depth) (lent s) (s .args .points .now) (done i)))
+fill-requires c κs = let k = c .before .before .before in all-refinable _ _ _ _ _ (done (k .before)) (k .counts-of .ensures)
 
 copy-requires : tie.Need-copy-requires
-copy-requires c κs =
-    let i = c .before .before .before .before .before .before .before .before .before .before .before .before in
-    let s = start i in
-    omega (arith, points-fit (cage s) (points s) (s .args .depth) (lent s) (s .args .points .now) (done i), points-roomy (cage s) (points s) (s .args .depth) (lent s) (s .args .points .now) (done i))
+copy-requires c κs = points-fit _ _ _ _ _ (done (c .before .before .before .before .before .before .before .before .before .before .before .before))
 
 refine-points-requires : tie.Need-refine-points-requires
 refine-points-requires c κs =
-    let i = c .before .before .before .before .before .before .before .before .before .before .before .before .before .before .before .before .before .before in
-    let s = start i in
     let f = c .before .before .before .before .before .before .before .before .before .before .before .before .before in
-    let e = c .before .before .before .before .before .before .before .before .before .before .before .before .before .before .before .before .before .counts-of .ensures in
-    readied (cage s) (points s) (s .args .depth) (lent s) (s .args .points .now) (done i) e (f .fill .ensures ∙ ap (λ (t : HalfedgeTable). tablesInFront (levelsEndToEnd t (cage s) (s .args .depth)) (lent s)) e) (c .before .before .before .before .before .copy .ensures)
+    let k = f .before .before .before .before in
+    readied _ _ _ _ _ (done (k .before)) (k .counts-of .ensures) (f .fill .ensures) (c .before .before .before .before .before .copy .ensures)
 
 count-requires : tie.Need-count-requires
 count-requires c κs = search needs
@@ -104,16 +75,9 @@ same-length-8 c = search needs
 
 returns-2 : tie.Need-returns-2
 returns-2 c =
-    let i = c .before .before .before .before .before .before .before .before .before .before .before .before .before .before .before .before .before .before .before .before .before in
-    let s = start i in
     let f = c .before .before .before .before .before .before .before .before .before .before .before .before .before .before .before .before in
-    let e = c .before .before .before .before .before .before .before .before .before .before .before .before .before .before .before .before .before .before .before .before .counts-of .ensures in
-    let filled = f .fill .ensures ∙ ap (λ (t : HalfedgeTable). tablesInFront (levelsEndToEnd t (cage s) (s .args .depth)) (lent s)) e in
-    let r = refine-done (cage s) (points s) (s .args .depth) (lent s) (s .args .points .now) (done i) in (
-      c .count .ensures ∙ ap (λ t. countQuestion t (s .args .depth)) e ∙ r .0,
-      filled ∙ r .1,
-      c .before .before .refine-points .ensures ∙ covered (cage s) (points s) (s .args .depth) (lent s) (s .args .points .now) (done i) e filled (c .before .before .before .before .before .before .before .before .copy .ensures) ∙ r .2,
-    )
+    let k = f .before .before .before .before in
+    outcome _ _ _ _ _ (done (k .before)) (k .counts-of .ensures) (f .fill .ensures) (c .before .before .before .before .before .before .before .before .copy .ensures) (c .count .ensures) (c .before .before .refine-points .ensures)
 
 pub refine-spec : {M : Type 1} → statement M
 refine-spec =

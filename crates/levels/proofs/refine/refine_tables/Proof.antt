@@ -1,11 +1,7 @@
 -- `refine_tables` answers its checks, and else fills in the levels.
 use borrow.Author.Needs.{needs}
-use mathlib.Core.Path.{ap, _∙_}
-use Rattle.levels.proofs.Granted.{all-granted, room-lent, refine-refused, refine-done}
-use Rattle.halfedges.specs.Counts.{countQuestion}
-use Rattle.tables.specs.Tables.{tables}
-use Rattle.levels.specs.Refining.{levelsEndToEnd}
-use Rattle.levels.specs.Internal.Filling.{tablesInFront}
+use mathlib.Core.Path.{_∙_}
+use Rattle.levels.proofs.Granted.{all-refinable, refine-refused, refine-done}
 use Rattle.levels.proofs.refine.refine_tables.Statement.{statement}
 use Rattle.levels.proofs.refine.refine_tables.Tie as tie
 
@@ -38,11 +34,10 @@ counts-of-requires c κs = search needs
 
 fill-requires : tie.Need-fill-requires
 fill-requires c κs =
-    let i = c .before .before .before .before in
+    let k = c .before .before .before in
+    let i = k .before in
     let p = i .before .before in
-    let g = all-granted _ _ _ _ (p .plan .result) (p .plan .ensures) (i .before .number .ensures) (i .if1 .left) in
-    rw (c .before .before .before .counts-of .ensures)
-    (g .sound, ((g .small, g .shallow), room-lent _ _ _ _ (p .plan .result) (p .plan .ensures) (i .before .number .ensures) (i .if1 .left)))
+    all-refinable _ _ _ _ (p .plan .result) (p .plan .ensures) (i .before .number .ensures) (i .if1 .left) (k .counts-of .ensures)
 
 count-requires : tie.Need-count-requires
 count-requires c κs = search needs
@@ -59,15 +54,10 @@ same-length-6 c = search needs
 returns-2 : tie.Need-returns-2
 returns-2 c =
     let f = c .before .before .before .before .before .before .before in
-    let i = f .before .before .before .before .before in
+    let k = f .before .before .before .before in
+    let i = k .before in
     let p = i .before .before in
-    let s = p .before .before .before .before .before .before .before .before .before .before in
-    let cage = tables (s .args .cage-twin .now) (s .args .cage-vert .now) (s .args .cage-edge .now) in
-    let x = tables (s .args .twin .now) (s .args .vert .now) (s .args .edge .now) in
-    let r = refine-done cage (s .args .vertices) (s .args .depth) x (p .plan .result) (p .plan .ensures) (i .before .number .ensures) (i .if1 .left) in (
-      c .count .ensures ∙ ap (λ t. countQuestion t (s .args .depth)) (f .before .before .before .before .counts-of .ensures) ∙ r .0,
-      f .fill .ensures ∙ ap (λ t. tablesInFront (levelsEndToEnd t cage (s .args .depth)) x) (f .before .before .before .before .counts-of .ensures) ∙ r .1,
-    )
+    refine-done _ _ _ _ (p .plan .result) (p .plan .ensures) (i .before .number .ensures) (i .if1 .left) (k .counts-of .ensures) (c .count .ensures) (f .fill .ensures)
 
 pub refine-tables-spec : {M : Type 1} → statement M
 refine-tables-spec =
