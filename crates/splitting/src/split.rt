@@ -115,16 +115,12 @@ pub fn put(table: &mut [u32], at: usize, halfedges: usize, first: usize, split: 
     requires { ⌜ Fits halfedges at first (now table) ⌝ }
     ensures { λ _. ⌜ now (table .exit) ≡ setSplit (now (table .entry)) at halfedges first split ⌝ }
 {
-    let a = split.first;
-    let b = split.second;
-    let c = split.third;
-    let middle = split.middle;
     let base = at + halfedges;
     let corner = base + 3 * first;
-    store(table, corner, a);
-    store(table, corner + 3, b);
-    store(table, corner + 6, c);
-    store(table, base + (3 * halfedges + first), middle);
+    store(table, corner, split.first);
+    store(table, corner + 3, split.second);
+    store(table, corner + 6, split.third);
+    store(table, base + (3 * halfedges + first), split.middle);
 }
 
 // Writes the split of a triangle in EDGE.
