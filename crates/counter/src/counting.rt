@@ -87,10 +87,7 @@ fn put_lines(out: &mut [u8], levels: Levels, depth: usize) -> usize
         at = lines::put_counts(
             &mut *out,
             at,
-            level,
-            levels.halfedges[level],
-            levels.edges[level],
-            levels.vertices[level],
+            lines::counts_of(levels, level),
             lines::NEWLINE,
         );
         level += 1;

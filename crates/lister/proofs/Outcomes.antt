@@ -1,17 +1,19 @@
 -- The reply of each outcome, by what the cage check and reading answered. Assumes nothing.
---     cage-refused, cage-listed     a cage that is refused, and one that is accepted, whose counts are small (`small`, `few-borders`)
---     file-refused, file-listed     a file that is refused, and one that reads, whose counts keep the limits (`H-kept`, `V-kept`)
+--     refused-listing, answered-listing      the reply to a checked cage
+--     cage-reply, cage-small         a cage that was checked, and the counts of one that is accepted
+--     file-reply, H-kept, V-kept     a file that was read, and the counts of one that reads
+--     unread-reply, read-reply       the reply to what was read
 use Prim.Native.Nat.{ℕ, _*_, _≤_}
-use mathlib.Core.Path.{_≡_, sym, ap, _∙_}
+use mathlib.Core.Path.{_≡_, refl, sym, ap, _∙_}
 use mathlib.Core.Logic.{_≢_}
 use mathlib.Core.List.{List, _++_}
+use native.Mathlib.Decide.{ℕ-discrete}
 use native.Mathlib.Omega.{arith}
 use lib.IntN.{ℤ, pos}
 use lib.ListN.{length, getD, take, replicate, length-replicate}
 use lib.Seq.{take-at}
-use borrow.Author.Tests.{ne-eqb}
+use borrow.Author.Tests.{eq-eqb, ne-eqb}
 use Rattle.laws.proofs.Counts.{count-at-most}
-use Rattle.halfedges.specs.declared.table.HalfedgeTable.{HalfedgeTable}
 use Rattle.halfedges.specs.declared.table.Levels.{Levels}
 use Rattle.halfedges.specs.Cage.{most-halfedges, most-vertices, most-depth, border, above, E, B}
 use Rattle.halfedges.specs.Refusals.{DONE, told, first, said}
@@ -36,16 +38,22 @@ use Rattle.text.specs.Lines.{roomLine}
 use Rattle.text.specs.Replies.{answered, refused}
 use Rattle.lister.specs.Listing.{levelBorders, levelLines, cageListing, roomy, roomyPoints, listing}
 use Rattle.lister.specs.Internal.Doubling.{doubled}
+use Rattle.lister.specs.Internal.Steps.{front, readListing, counts, Small, checkedListing}
 use Rattle.lister.proofs.Lines.{lines-alike}
 
 -- ---- a cage
 
--- the counts that the check returned
-abbrev pub counts : Checked → HalfedgeTable
-counts r = record { halfedges = r .halfedges; edges = r .edges; vertices = r .vertices }
+module _ (c : Checked) where
+  pub refused-listing : told (c .answer) .number ≢ 0 → refused (told (c .answer)) ≡ checkedListing c
+  unfolding checkedListing
+  refused-listing n = rw (ne-eqb (told (c .answer) .number) 0 n)
+
+  pub answered-listing : told (c .answer) .number ≡ 0 → (l : Levels) → l ≡ levels (counts c) most-depth → answered (levelLines l (doubled (c .borders))) ≡ checkedListing c
+  unfolding checkedListing
+  answered-listing z l e = rw (eq-eqb (told (c .answer) .number) 0 z, e)
 
 module _ (c : Tables) (points : List ℤ) (r : Checked) (e : checked r ≡ checkCage c points) where
-  pub cage-refused : told (r .answer) .number ≢ 0 → refused (told (r .answer)) ≡ cageListing c points
+  cage-refused : told (r .answer) .number ≢ 0 → refused (told (r .answer)) ≡ cageListing c points
   unfolding cageListing
   cage-refused n =
       let v : told (r .answer) ≡ checkCage c points .verdict = ap (λ s. s .verdict) e in
@@ -71,13 +79,13 @@ module _ (c : Tables) (points : List ℤ) (r : Checked) (e : checked r ≡ check
     fits : Fits c points
     fits = accepted-fits c points done
 
-    pub small : AtMost most-halfedges (counts r)
+    few-counts : AtMost most-halfedges (counts r)
     unfolding E
-    small =
+    few-counts =
         rw counted
         (record { halfedges = fits .few-halfedges; edges = omega (arith, fits .few-halfedges, count-at-most (length (c .twin)) (above (c .twin))); vertices = omega (arith, fits .few-vertices) })
 
-    pub few-borders : r .borders ≤ most-halfedges
+    few-borders : r .borders ≤ most-halfedges
     unfolding B
     few-borders = omega (arith, bordered, fits .few-halfedges, count-at-most (length (c .twin)) (border (c .twin)))
 
@@ -89,77 +97,78 @@ module _ (c : Tables) (points : List ℤ) (r : Checked) (e : checked r ≡ check
     unfolding levelBorders
     doubled-borders k l = ap (λ b. doubled b k) bordered ∙ sym (accepted c (vertices points) 0 tables-done k l .border-edges)
 
-    pub cage-listed : (l : Levels) → l ≡ levels (counts r) most-depth → answered (levelLines l (doubled (r .borders))) ≡ cageListing c points
+    cage-listed : answered (levelLines (levels (counts r) most-depth) (doubled (r .borders))) ≡ cageListing c points
     unfolding cageListing checkCage said levelLines
-    cage-listed l q =
+    cage-listed =
+        let l = levels (counts r) most-depth in
         let bs = levelBorders (countsOf c (vertices points)) c in
         ap (λ t. answered (t ++ roomLine (l .«halfedge_room») (l .«vertex_room»))) (lines-alike l (doubled (r .borders)) bs 7 (λ k h. doubled-borders k (omega arith)))
-        ∙ ap (λ m. answered (levelLines m bs)) (q ∙ ap (λ t. levels t most-depth) counted)
+        ∙ ap (λ t. answered (levelLines (levels t most-depth) bs)) counted
         ∙ rw done
+
+  pub cage-reply : checkedListing r ≡ cageListing c points
+  cage-reply = by (ℕ-discrete (told (r .answer) .number) 0)
+    where
+      by : Dec (told (r .answer) .number ≡ 0) → checkedListing r ≡ cageListing c points
+      by (yes z) = sym (answered-listing r z _ refl) ∙ cage-listed z
+      by (no n) = sym (refused-listing r n) ∙ cage-refused n
+
+  pub cage-small : Small r
+  cage-small = record { few-counts = few-counts; few-borders = few-borders }
 
 -- ---- a file
 
--- what reading asks of lent tables is their lengths
-same-room : (f : List ℕ) (a b : Tables) (p q : List ℤ)
-    → length (a .twin) ≡ length (b .twin) → length (a .vert) ≡ length (b .vert) → length (a .edge) ≡ length (b .edge) → length p ≡ length q
-    → readVerdict f a p ≡ readVerdict f b q
-unfolding readVerdict shortTables
-same-room f a b p q t v e l = rw (t, v, e, l)
+module _ (r : Reading) (t : Tables) (points : List ℤ) where
+  pub unread-reply : told (r .answer) .number ≢ 0 → refused (told (r .answer)) ≡ readListing r t points
+  unfolding readListing
+  unread-reply n = rw (ne-eqb (told (r .answer) .number) 0 n)
 
--- tables with room for any cage
-pub record Roomy (lent : Tables) (lentPoints : List ℤ) : Type 0 where
-  pub twin : length (lent .twin) ≡ most-halfedges
-  pub vert : length (lent .vert) ≡ most-halfedges
-  pub edge : length (lent .edge) ≡ most-halfedges
-  pub coordinates : length lentPoints ≡ 3 * most-vertices
+  pub read-reply : told (r .answer) .number ≡ 0 → cageListing (front r t) (take (3 * r .vertices) points) ≡ readListing r t points
+  unfolding readListing
+  read-reply z = rw (eq-eqb (told (r .answer) .number) 0 z)
 
-roomy-verdict : (f : List ℕ) (lent : Tables) (lentPoints : List ℤ) → Roomy lent lentPoints → readVerdict f lent lentPoints ≡ readVerdict f roomy roomyPoints
-unfolding roomy roomyPoints
-roomy-verdict f lent lentPoints room =
-    let table : most-halfedges ≡ length (replicate {A = ℕ} most-halfedges 0) = sym (length-replicate {A = ℕ} most-halfedges 0) in
-    same-room f lent _ lentPoints _ (room .twin ∙ table) (room .vert ∙ table) (room .edge ∙ table) (room .coordinates ∙ sym (length-replicate (3 * most-vertices) (pos 0)))
+-- what reading a file into tables with room for any cage left
+abbrev pub Left : List ℕ → Reading → Tables → List ℤ → Type 0
+Left f r now points =
+    let after = readFile f roomy roomyPoints in
+    (reported r ≡ after .answer) × (now .twin ≡ after .lent .twin) × (now .vert ≡ after .lent .vert) × (now .edge ≡ after .lent .edge) × (points ≡ after .points)
 
-module _ (f : List ℕ) (lent : Tables) (lentPoints : List ℤ) (room : Roomy lent lentPoints)
-    (r : Reading) (e : reported r ≡ readFile f lent lentPoints .answer) where
-  verdict : told (r .answer) ≡ readVerdict f lent lentPoints
+module _ (f : List ℕ) (r : Reading) (now : Tables) (points : List ℤ) (left : Left f r now points) where
+  verdict : told (r .answer) ≡ readVerdict f roomy roomyPoints
   unfolding readFile said
-  verdict = ap (λ s. s .verdict) e
+  verdict = ap (λ s. s .verdict) (left .0)
 
-  pub file-refused : told (r .answer) .number ≢ 0 → refused (told (r .answer)) ≡ listing f
+  file-refused : told (r .answer) .number ≢ 0 → refused (told (r .answer)) ≡ listing f
   unfolding listing
-  file-refused n =
-      let v = verdict ∙ roomy-verdict f lent lentPoints room in
-      rw (← v, ne-eqb (told (r .answer) .number) 0 n)
+  file-refused n = rw (← verdict, ne-eqb (told (r .answer) .number) 0 n)
 
   module _ (z : told (r .answer) .number ≡ 0) where
-    read : readVerdict f lent lentPoints ≡ DONE
+    read : readVerdict f roomy roomyPoints ≡ DONE
     read = sym verdict ∙ zero-done (r .answer) z
 
-    all : readFile f lent lentPoints ≡ allRead f lent lentPoints
-    all = read-done f lent lentPoints read
+    all : readFile f roomy roomyPoints ≡ allRead f roomy roomyPoints
+    all = read-done f roomy roomyPoints read
 
     H-read : r .halfedges ≡ HIn f
-    H-read = ap (λ s. getD (s .values) 0 0) (e ∙ ap (λ a. a .answer) all)
+    H-read = ap (λ s. getD (s .values) 0 0) (left .0 ∙ ap (λ a. a .answer) all)
 
     V-read : r .vertices ≡ VIn f
-    V-read = ap (λ s. getD (s .values) 1 0) (e ∙ ap (λ a. a .answer) all)
+    V-read = ap (λ s. getD (s .values) 1 0) (left .0 ∙ ap (λ a. a .answer) all)
 
     pub H-kept : r .halfedges ≤ most-halfedges
-    H-kept = rw H-read (read-sound f lent lentPoints read .few-halfedges)
+    H-kept = rw H-read (read-sound f roomy roomyPoints read .few-halfedges)
 
     pub V-kept : r .vertices ≤ most-vertices
-    V-kept = rw V-read (read-sound f lent lentPoints read .few-vertices)
+    V-kept = rw V-read (read-sound f roomy roomyPoints read .few-vertices)
 
-    pub file-listed : (now : Tables) (points : List ℤ) → let after = readFile f lent lentPoints in
-        now .twin ≡ after .lent .twin → now .vert ≡ after .lent .vert → now .edge ≡ after .lent .edge → points ≡ after .points
-        → cageListing (tables (take (r .halfedges) (now .twin)) (take (r .halfedges) (now .vert)) (take (r .halfedges) (now .edge))) (take (3 * r .vertices) points) ≡ listing f
+    file-listed : cageListing (front r now) (take (3 * r .vertices) points) ≡ listing f
     unfolding listing
-    file-listed now points t v d p =
+    file-listed =
         rw (
-          t,
-          v,
-          d,
-          p,
+          left .1,
+          left .2,
+          left .3,
+          left .4,
           all,
           H-read,
           V-read,
@@ -167,6 +176,12 @@ module _ (f : List ℕ) (lent : Tables) (lentPoints : List ℤ) (room : Roomy le
           take-at (vertsIn f) _ _ (verts-length f),
           take-at (edgesIn f) _ _ (edges-length f),
           take-at (pointsIn f) _ _ (points-length f),
-          ← roomy-verdict f lent lentPoints room,
           read,
         )
+
+  pub file-reply : readListing r now points ≡ listing f
+  file-reply = by (ℕ-discrete (told (r .answer) .number) 0)
+    where
+      by : Dec (told (r .answer) .number ≡ 0) → readListing r now points ≡ listing f
+      by (yes z) = sym (read-reply r now points z) ∙ file-listed z
+      by (no n) = sym (unread-reply r now points n) ∙ file-refused n

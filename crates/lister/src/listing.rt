@@ -5,16 +5,22 @@ ghost use Prim.Native.Nat.{_+_, _*_, _≤_};
 ghost use lib.ListN.{length};
 ghost use Rattle.io.specs.Counts.{Counts};
 ghost use Rattle.laws.specs.Below.{endToEnd};
-ghost use Rattle.halfedges.specs.Cage.{most-halfedges, most-vertices};
+ghost use Rattle.halfedges.specs.Cage.{most-halfedges};
+ghost use Rattle.halfedges.specs.Refusals.{told};
 ghost use Rattle.tables.specs.Tables.{tables};
-ghost use Rattle.text.specs.Lines.{decimal, line, countWords};
+ghost use Rattle.text.specs.Lines.{decimal, line};
 ghost use Rattle.text.specs.Replies.{Says};
 ghost use Rattle.text.specs.Internal.Put.{Put, Replied};
-ghost use Rattle.lister.specs.Listing.{levelLine, levelLines, cageListing, listing};
+ghost use Rattle.text.specs.Internal.LevelWords.{wordsOf};
+ghost use Rattle.lister.specs.Listing.{levelLine, levelLines, listing};
 ghost use Rattle.lister.specs.Internal.Doubling.{doubled};
+ghost use Rattle.lister.specs.Internal.Steps.{Held, readListing, Small, checkedListing};
 use halfedges::table::HalfedgeTable;
 use halfedges::table::Levels;
+use reading::Reading;
+use tables::check::Checked;
 use text::lines;
+use text::lines::LevelCounts;
 use text::replies;
 use text::replies::Written;
 
@@ -23,50 +29,54 @@ pub fn list(file: &[u8], out: &mut [u8; 1024]) -> Written
     ensures { λ r. ⌜ Says (listing (now (file .entry))) (now (out .entry)) (now (out .exit)) r ⌝ }
     ensures { λ r. ⌜ Counts (r .length) (now (out .exit)) ⌝ }
 {
+    put_listing(out, check_file(file))
+}
+
+// The check of the cage in a file, read into tables that have room for any.
+fn check_file(file: &[u8]) -> Checked
+    ensures { λ r. ⌜ Small r × (checkedListing r ≡ listing (now (file .entry))) ⌝ }
+{
     let mut twin = [0u32; HalfedgeTable::MOST_HALFEDGES];
     let mut vert = [0u32; HalfedgeTable::MOST_HALFEDGES];
     let mut edge = [0u32; HalfedgeTable::MOST_HALFEDGES];
     let mut points = [0i32; 3 * HalfedgeTable::MOST_VERTICES];
-    list_file(file, &mut twin, &mut vert, &mut edge, &mut points, out)
+    let reading = reading::read(file, &mut twin, &mut vert, &mut edge, &mut points);
+    check_read(reading, &twin, &vert, &edge, &points)
 }
 
-// The reply to a file's bytes, read into tables that have room for any cage.
-fn list_file(
-    file: &[u8],
-    twin: &mut [u32],
-    vert: &mut [u32],
-    edge: &mut [u32],
-    points: &mut [i32],
-    out: &mut [u8],
-) -> Written
-    requires { ⌜ (length (now twin) ≡ most-halfedges) × (length (now vert) ≡ most-halfedges) × (length (now edge) ≡ most-halfedges)
-        × (length (now points) ≡ 3 * most-vertices) × (1024 ≤ length (now out)) ⌝ }
-    ensures { λ r. ⌜ Replied (now (out .entry)) 1024 (listing (now (file .entry))) (now (out .exit)) r ⌝ }
+// The check of the cage that stands at the fronts of the tables, where the file reads; else its refusal.
+fn check_read(reading: Reading, twin: &[u32], vert: &[u32], edge: &[u32], points: &[i32]) -> Checked
+    requires { ⌜ (told (reading .answer) .number ≡ 0 → Held reading (tables (now twin) (now vert) (now edge)) (now points)) ⌝ }
+    ensures { λ r.
+        let held = tables (now (twin .entry)) (now (vert .entry)) (now (edge .entry)) in
+        ⌜ Small r × (checkedListing r ≡ readListing reading held (now (points .entry))) ⌝ }
 {
-    let reading = reading::read(file, &mut *twin, &mut *vert, &mut *edge, &mut *points);
     let answer = reading.answer;
     if answer.number() != 0 {
-        return replies::put_refusal(&mut *out, answer);
+        return Checked {
+            answer,
+            halfedges: 0,
+            edges: 0,
+            triangles: 0,
+            vertices: 0,
+            borders: 0,
+        };
     }
     let halfedges = reading.halfedges;
     let coordinates = 3 * reading.vertices;
-    list_cage(
+    cage::check_cage(
         &twin[..halfedges],
         &vert[..halfedges],
         &edge[..halfedges],
         &points[..coordinates],
-        &mut *out,
     )
 }
 
-// The reply to a cage.
-fn list_cage(twin: &[u32], vert: &[u32], edge: &[u32], points: &[i32], out: &mut [u8]) -> Written
-    requires { ⌜ 1024 ≤ length (now out) ⌝ }
-    ensures { λ r.
-        let cage = tables (now (twin .entry)) (now (vert .entry)) (now (edge .entry)) in
-        ⌜ Replied (now (out .entry)) 1024 (cageListing cage (now (points .entry))) (now (out .exit)) r ⌝ }
+// The reply to a cage that was checked.
+fn put_listing(out: &mut [u8], checked: Checked) -> Written
+    requires { ⌜ Small checked × (1024 ≤ length (now out)) ⌝ }
+    ensures { λ r. ⌜ Replied (now (out .entry)) 1024 (checkedListing checked) (now (out .exit)) r ⌝ }
 {
-    let checked = cage::check_cage(twin, vert, edge, points);
     let answer = checked.answer;
     if answer.number() != 0 {
         return replies::put_refusal(&mut *out, answer);
@@ -108,10 +118,7 @@ fn put_lines(out: &mut [u8], levels: Levels, borders: usize) -> usize
         at = put_level(
             &mut *out,
             at,
-            level,
-            levels.halfedges[level],
-            levels.edges[level],
-            levels.vertices[level],
+            lines::counts_of(levels, level),
             level_borders,
         );
         level_borders = 2 * level_borders;
@@ -121,28 +128,10 @@ fn put_lines(out: &mut [u8], levels: Levels, borders: usize) -> usize
 }
 
 // The line of a level: its number, H, E, F, V and B.
-fn put_level(
-    out: &mut [u8],
-    at: usize,
-    level: usize,
-    halfedges: usize,
-    edges: usize,
-    vertices: usize,
-    borders: usize,
-) -> usize
+fn put_level(out: &mut [u8], at: usize, counts: LevelCounts, borders: usize) -> usize
     requires { ⌜ at + 126 ≤ length (now out) ⌝ }
-    ensures { λ r.
-        let words = countWords level halfedges edges vertices ++ (decimal borders ∷ []) in
-        ⌜ Put (now (out .entry)) at 126 (line words) (now (out .exit)) r ⌝ }
+    ensures { λ r. ⌜ Put (now (out .entry)) at 126 (line (wordsOf counts ++ (decimal borders ∷ []))) (now (out .exit)) r ⌝ }
 {
-    let next = lines::put_counts(
-        &mut *out,
-        at,
-        level,
-        halfedges,
-        edges,
-        vertices,
-        lines::SPACE,
-    );
+    let next = lines::put_counts(&mut *out, at, counts, lines::SPACE);
     lines::put_number(&mut *out, next, borders, lines::NEWLINE)
 }

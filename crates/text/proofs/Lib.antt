@@ -1,5 +1,5 @@
 pub mod Decimal
-pub mod Texts
 pub mod Words
+pub mod Texts
 pub mod Replying
 pub mod Numerals

@@ -1,6 +1,6 @@
 -- How texts are written one after another. Assumes nothing.
 --     put-none, put-more      nothing, and a text straight after another
---     put-then                a word and the rest of its line
+--     put-then, put-words     a word and the rest of its line, words and the rest of their line
 --     put-within              what takes less room
 --     put-next                one line more after k lines
 --     word-next, word-put     a word byte by byte, and what stands after it
@@ -17,8 +17,9 @@ use Rattle.io.specs.Digits.{digits, Fewest}
 use Rattle.laws.specs.Below.{endToEnd}
 use Rattle.laws.specs.Internal.Parts.{splice}
 use Rattle.laws.proofs.Splice.{splice-one, splice-more}
-use Rattle.text.specs.Lines.{space, decimal}
+use Rattle.text.specs.Lines.{space, decimal, ended}
 use Rattle.text.specs.Internal.Put.{Put}
+use Rattle.text.proofs.Words.{ended-join}
 use Rattle.text.proofs.Decimal.{few-digits, fewest-is}
 
 pub put-none : (a : List ℕ) (at : ℕ) → Put a at 0 [] a at
@@ -35,6 +36,11 @@ put-more {a} {b} {c} {i} {j} {k} {m} {n} {x} {y} l p q =
 -- a word, and after a space the rest of its line
 pub put-then : {a b c : List ℕ} {i j k m n : ℕ} {r : List ℕ} (w : List ℕ) → i ≤ length a → Put a i m (w ++ (space ∷ [])) b j → Put b j n r c k → Put a i (m + n) (w ++ (space ∷ r)) c k
 put-then {r = r} w l p q = rw (append-assoc w (space ∷ []) r) at (put-more l p q)
+
+-- words with a space after each, and the words that end the line
+pub put-words : {a b c : List ℕ} {i j k m n : ℕ} (after : ℕ) (w : List ℕ) (ws : List (List ℕ)) (v : List ℕ) (vs : List (List ℕ)) → i ≤ length a
+    → Put a i m (ended space (w ∷ ws)) b j → Put b j n (ended after (v ∷ vs)) c k → Put a i (m + n) (ended after ((w ∷ ws) ++ (v ∷ vs))) c k
+put-words after w ws v vs l p q = rw (ended-join after w ws v vs) at (put-more l p q)
 
 pub put-within : {a b : List ℕ} {i j m n : ℕ} {x : List ℕ} → m ≤ n → Put a i m x b j → Put a i n x b j
 put-within l p = record { bytes = p .bytes; ends = p .ends; short = omega (arith, p .short) }

@@ -1,2 +1,3 @@
 -- What only contracts between functions cite.
 pub mod Put
+pub mod LevelWords

@@ -1,9 +1,13 @@
 // Lines of words and numbers, written one after another into a text.
+ghost use mathlib.Core.Path.{_≡_};
 ghost use mathlib.Core.List.{[], _∷_, _++_};
 ghost use Prim.Native.Nat.{_+_, _≤_};
 ghost use lib.ListN.{length};
-ghost use Rattle.text.specs.Lines.{decimal, ended, countWords, roomLine};
+ghost use Rattle.halfedges.specs.Cage.{most-depth};
+ghost use Rattle.text.specs.Lines.{decimal, ended, levelWords, roomLine};
 ghost use Rattle.text.specs.Internal.Put.{Put};
+ghost use Rattle.text.specs.Internal.LevelWords.{wordsOf};
+use halfedges::table::Levels;
 
 // What stands between the words of a line.
 pub const SPACE: u8 = 32;
@@ -44,23 +48,36 @@ pub fn put_pair(out: &mut [u8], at: usize, one: usize, other: usize, after: u8) 
     put_number(&mut *out, next, other, after)
 }
 
-// A level's number, H, E, F and V, and what stands after them.
-pub fn put_counts(
-    out: &mut [u8],
-    at: usize,
-    level: usize,
-    halfedges: usize,
-    edges: usize,
-    vertices: usize,
-    after: u8,
-) -> usize
-    requires { ⌜ at + 105 ≤ length (now out) ⌝ }
-    ensures { λ r. ⌜ Put (now (out .entry)) at 105 (ended after (countWords level halfedges edges vertices)) (now (out .exit)) r ⌝ }
+// The counts of a level.
+pub struct LevelCounts {
+    pub level: usize,
+    pub halfedges: usize,
+    pub edges: usize,
+    pub vertices: usize,
+}
+
+// The counts of one of some levels.
+pub fn counts_of(levels: Levels, level: usize) -> LevelCounts
+    requires { ⌜ level ≤ most-depth ⌝ }
+    ensures { λ r. ⌜ wordsOf r ≡ levelWords levels level ⌝ }
 {
-    let level_end = put_number(&mut *out, at, level, SPACE);
-    let halfedges_end = put_number(&mut *out, level_end, halfedges, SPACE);
-    let edges_end = put_number(&mut *out, halfedges_end, edges, SPACE);
-    put_pair(&mut *out, edges_end, halfedges / 3, vertices, after)
+    LevelCounts {
+        level,
+        halfedges: levels.halfedges[level],
+        edges: levels.edges[level],
+        vertices: levels.vertices[level],
+    }
+}
+
+// A level's number, H, E, F and V, and what stands after them.
+pub fn put_counts(out: &mut [u8], at: usize, counts: LevelCounts, after: u8) -> usize
+    requires { ⌜ at + 105 ≤ length (now out) ⌝ }
+    ensures { λ r. ⌜ Put (now (out .entry)) at 105 (ended after (wordsOf counts)) (now (out .exit)) r ⌝ }
+{
+    let halfedges = counts.halfedges;
+    let halfedges_end = put_pair(&mut *out, at, counts.level, halfedges, SPACE);
+    let edges_end = put_number(&mut *out, halfedges_end, counts.edges, SPACE);
+    put_pair(&mut *out, edges_end, halfedges / 3, counts.vertices, after)
 }
 
 // The line of the room.

@@ -32,24 +32,34 @@ fn fill(buffer: &mut [u8]) -> Input
 {
     let mut done = 0;
     while done < buffer.len() {
-        let got = libc::read(STDIN_FILENO, &mut buffer[done..]);
-        if got < 0 {
+        let more = read_part(&mut buffer[done..]);
+        if more.length == 0 {
             return Input {
                 length: done,
-                failed: true,
+                failed: more.failed,
             };
         }
-        let more = io::count(got, &buffer[done..]);
-        if more == 0 {
-            return Input {
-                length: done,
-                failed: false,
-            };
-        }
-        done += more;
+        done += more.length;
     }
     Input {
         length: done,
+        failed: false,
+    }
+}
+
+// Reads once: no bytes where the input ends or the read fails.
+fn read_part(part: &mut [u8]) -> Input
+    ensures { λ r. ⌜ Counts (r .length) (now (part .exit)) ⌝ }
+{
+    let got = libc::read(STDIN_FILENO, &mut *part);
+    if got < 0 {
+        return Input {
+            length: 0,
+            failed: true,
+        };
+    }
+    Input {
+        length: io::count(got, &*part),
         failed: false,
     }
 }

@@ -1,10 +1,11 @@
 -- `put_lines` keeps the lines put so far.
 use borrow.Author.Needs.{needs}
 use Prim.Native.Nat.{suc, _+_, _-_, _*_, _≤_}
-use mathlib.Core.Path.{_≡_, refl, _∙_}
+use mathlib.Core.Path.{_≡_, refl, ap, _∙_}
 use native.Mathlib.Omega.{arith}
 use lib.ListN.{length}
 use Rattle.laws.specs.Below.{endToEnd}
+use Rattle.text.specs.Lines.{line}
 use Rattle.text.specs.Internal.Put.{Put}
 use Rattle.text.proofs.Texts.{put-none, put-next, put-within}
 use Rattle.counter.specs.Counting.{countLine}
@@ -12,31 +13,16 @@ use Rattle.counter.proofs.counting.put_lines.Statement.{statement}
 use Rattle.counter.proofs.counting.put_lines.Tie as tie
 
 abbrev Inv-loop : tie.InvT-loop
-Inv-loop out₀ depth levels at₀ level₀ out at level = (level ≤ depth + 1) × (length out ≡ length out₀) × Put out₀ 0 (105 * level) (endToEnd level (countLine levels)) out at
+Inv-loop out₀ levels depth at₀ level₀ out at level = (level ≤ depth + 1) × (length out ≡ length out₀) × Put out₀ 0 (105 * level) (endToEnd level (countLine levels)) out at
 
 abbrev μ-loop : tie.MeasureT-loop
-μ-loop out₀ depth levels at₀ level₀ out at level = depth + 1 - level
+μ-loop out₀ levels depth at₀ level₀ out at level = depth + 1 - level
 
 loop-holds : tie.Need-loop-holds Inv-loop μ-loop
 loop-holds c = (omega arith, refl, put-none _ _)
 
-mul-put-counts : tie.Need-mul-put-counts Inv-loop μ-loop
-mul-put-counts c = search needs
-
-element-copy-out-put-counts : tie.Need-element-copy-out-put-counts Inv-loop μ-loop
-element-copy-out-put-counts c = search needs
-
-mul-put-counts-2 : tie.Need-mul-put-counts-2 Inv-loop μ-loop
-mul-put-counts-2 c = search needs
-
-element-copy-out-put-counts-2 : tie.Need-element-copy-out-put-counts-2 Inv-loop μ-loop
-element-copy-out-put-counts-2 c = search needs
-
-mul-put-counts-3 : tie.Need-mul-put-counts-3 Inv-loop μ-loop
-mul-put-counts-3 c = search needs
-
-element-copy-out-put-counts-3 : tie.Need-element-copy-out-put-counts-3 Inv-loop μ-loop
-element-copy-out-put-counts-3 c = search needs
+counts-of-requires : tie.Need-counts-of-requires Inv-loop μ-loop
+counts-of-requires c κs = search needs
 
 put-counts-requires : tie.Need-put-counts-requires Inv-loop μ-loop
 put-counts-requires c κs = omega arith
@@ -50,8 +36,11 @@ loop-less c = search needs
 loop-again : tie.Need-loop-again Inv-loop μ-loop
 loop-again c =
     let p = c .before .before in
-    let l = p .before .before .before .before .before .before in
-    (omega arith, p .put-counts .kept .0 ∙ l .loop .inv .1, put-next (countLine (l .before .before .args .t2)) 105 (l .loop .level) (l .loop .inv .2) (p .put-counts .ensures))
+    let k = p .before in
+    let l = k .before .before .before in
+    let s = l .before .before .args in
+    let new = rw (ap line (k .counts-of .ensures)) at (p .put-counts .ensures) in
+    (omega arith, p .put-counts .kept .0 ∙ l .loop .inv .1, put-next (countLine (s .levels)) 105 (l .loop .level) (l .loop .inv .2) new)
 
 same-length : tie.Need-same-length Inv-loop μ-loop
 same-length c = search needs
@@ -69,12 +58,7 @@ put-lines-spec =
     Inv-loop
     μ-loop
     loop-holds
-    mul-put-counts
-    element-copy-out-put-counts
-    mul-put-counts-2
-    element-copy-out-put-counts-2
-    mul-put-counts-3
-    element-copy-out-put-counts-3
+    counts-of-requires
     put-counts-requires
     add-level
     loop-less

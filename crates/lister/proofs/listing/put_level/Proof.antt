@@ -19,7 +19,7 @@ returns c =
     let number = c .before .before in
     let counts = number .before .before .before .before in
     let s = counts .before .before .before .args in
-    level-put (s .level) (s .halfedges) (s .edges) (s .vertices) (s .borders) (omega arith) (counts .put-counts .ensures) (number .put-number .ensures)
+    level-put (s .counts) (s .borders) (omega arith) (counts .put-counts .ensures) (number .put-number .ensures)
 
 pub put-level-spec : {M : Type 1} → statement M
 put-level-spec = tie.close (tie.spec put-counts-requires put-number-requires same-length returns)

@@ -9,44 +9,29 @@ use Rattle.text.specs.Internal.Put.{Put}
 use Rattle.text.proofs.Texts.{put-none, put-next}
 use Rattle.lister.specs.Listing.{levelLine}
 use Rattle.lister.specs.Internal.Doubling.{doubled}
-use Rattle.lister.proofs.Lines.{few-doubled, doubled-next}
+use Rattle.lister.proofs.Lines.{few-doubled, doubled-next, level-line}
 use Rattle.lister.proofs.listing.put_lines.Statement.{statement}
 use Rattle.lister.proofs.listing.put_lines.Tie as tie
 
 abbrev Inv-loop : tie.InvT-loop
-Inv-loop out₀ borders levels at₀ level₀ level-borders₀ out at level level-borders =
+Inv-loop out₀ levels borders at₀ level₀ level-borders₀ out at level level-borders =
     (level ≤ 7) × (level-borders ≡ doubled borders level) × (length out ≡ length out₀) × Put out₀ 0 (126 * level) (endToEnd level (levelLine levels (doubled borders))) out at
 
 abbrev μ-loop : tie.MeasureT-loop
-μ-loop out₀ borders levels at₀ level₀ level-borders₀ out at level level-borders = 7 - level
+μ-loop out₀ levels borders at₀ level₀ level-borders₀ out at level level-borders = 7 - level
 
 loop-holds : tie.Need-loop-holds Inv-loop μ-loop
 loop-holds c = (omega arith, omega arith, refl, put-none _ _)
 
-mul-put-level : tie.Need-mul-put-level Inv-loop μ-loop
-mul-put-level c = search needs
-
-element-copy-out-put-level : tie.Need-element-copy-out-put-level Inv-loop μ-loop
-element-copy-out-put-level c = search needs
-
-mul-put-level-2 : tie.Need-mul-put-level-2 Inv-loop μ-loop
-mul-put-level-2 c = search needs
-
-element-copy-out-put-level-2 : tie.Need-element-copy-out-put-level-2 Inv-loop μ-loop
-element-copy-out-put-level-2 c = search needs
-
-mul-put-level-3 : tie.Need-mul-put-level-3 Inv-loop μ-loop
-mul-put-level-3 c = search needs
-
-element-copy-out-put-level-3 : tie.Need-element-copy-out-put-level-3 Inv-loop μ-loop
-element-copy-out-put-level-3 c = search needs
+counts-of-requires : tie.Need-counts-of-requires Inv-loop μ-loop
+counts-of-requires c κs = search needs
 
 put-level-requires : tie.Need-put-level-requires Inv-loop μ-loop
 put-level-requires c κs = omega arith
 
 mul-level-borders : tie.Need-mul-level-borders Inv-loop μ-loop
 mul-level-borders c =
-    let l = c .before .before .before .before .before .before .before .before in
+    let l = c .before .before .before .before .before .before in
     let s = l .before .before in
     omega (arith, few-doubled (s .args .borders) (l .loop .level) (s .pre .0) (omega arith))
 
@@ -59,9 +44,11 @@ loop-less c = search needs
 loop-again : tie.Need-loop-again Inv-loop μ-loop
 loop-again c =
     let p = c .before .before in
-    let l = p .before .before .before .before .before .before in
+    let k = p .before in
+    let l = k .before .before .before in
     let s = l .before .before .args in
-    (omega arith, doubled-next (s .borders) (l .loop .level) (l .loop .level-borders) (l .loop .inv .1), p .put-level .kept .0 ∙ l .loop .inv .2, put-next (levelLine (s .t2) (doubled (s .borders))) 126 (l .loop .level) (l .loop .inv .3) (rw (l .loop .inv .1) at (p .put-level .ensures)))
+    let new = level-line (s .levels) (doubled (s .borders)) (l .loop .level) (k .counts-of .result) (l .loop .level-borders) (k .counts-of .ensures) (l .loop .inv .1) (p .put-level .ensures) in
+    (omega arith, doubled-next (s .borders) (l .loop .level) (l .loop .level-borders) (l .loop .inv .1), p .put-level .kept .0 ∙ l .loop .inv .2, put-next (levelLine (s .levels) (doubled (s .borders))) 126 (l .loop .level) (l .loop .inv .3) new)
 
 same-length : tie.Need-same-length Inv-loop μ-loop
 same-length c = search needs
@@ -79,12 +66,7 @@ put-lines-spec =
     Inv-loop
     μ-loop
     loop-holds
-    mul-put-level
-    element-copy-out-put-level
-    mul-put-level-2
-    element-copy-out-put-level-2
-    mul-put-level-3
-    element-copy-out-put-level-3
+    counts-of-requires
     put-level-requires
     mul-level-borders
     add-level
