@@ -1,3 +1,4 @@
+pub mod Upto
 pub mod Meaning
 pub mod Carriers
 pub mod RuleTests

@@ -2,3 +2,4 @@
 pub mod Above
 pub mod Tally
 pub mod Walks
+pub mod Relied

@@ -1,14 +1,13 @@
 // Rule 7. Of each vertex the fan of one corner is walked: it is all of them where it has as many halfedges as the vertex has
 // corners.
 ghost use mathlib.Core.Path.{_≡_};
-ghost use Prim.Native.Nat.{ℕ, _%_, _≤_, _<_};
+ghost use Prim.Native.Nat.{ℕ, _≤_, _<_};
 ghost use lib.ListN.{length};
 ghost use Rattle.halfedges.specs.Cage.{marker, most-halfedges, most-vertices, cell};
 ghost use Rattle.halfedges.specs.Refusals.{FAN, told, givenAt};
 ghost use Rattle.tables.specs.Fans.{link, notOneFan};
-ghost use Rattle.tables.specs.Ruled.{Paired, Placed, Used};
-ghost use Rattle.tables.specs.Internal.Tally.{Tallied};
 ghost use Rattle.tables.specs.Internal.Walks.{Walkable, fanSize, Kept};
+ghost use Rattle.tables.specs.Internal.Relied.{ForFans, Marked};
 use crate::cells::wide;
 use crate::rules::count_numbers;
 use halfedges::answer::Answer;
@@ -16,9 +15,7 @@ use halfedges::table::HalfedgeTable;
 
 // Rule 7, where rules 3 to 5 are kept.
 pub fn check_fans(twin: &[u32], vert: &[u32], vertices: usize) -> Answer
-    requires { ⌜ (Paired (now twin)) × (Placed (now twin) (now vert) vertices) × (Used (now vert) vertices) ⌝ }
-    requires { ⌜ (length (now twin) % 3 ≡ 0) × (length (now vert) ≡ length (now twin)) × (length (now twin) ≤ most-halfedges)
-        × (vertices ≤ most-vertices) ⌝ }
+    requires { ⌜ ForFans (now twin) (now vert) vertices × (vertices ≤ most-vertices) ⌝ }
     ensures { λ r. ⌜ told r ≡ givenAt vertices (notOneFan (now (twin .entry)) (now (vert .entry))) FAN ⌝ }
 {
     let mut kept = [0u32; HalfedgeTable::MOST_VERTICES];
@@ -49,10 +46,7 @@ fn first_not_one_fan(
     vert: &[u32],
     vertices: usize,
 ) -> Answer
-    requires { ⌜ (Walkable (now twin)) × (Placed (now twin) (now vert) vertices) × (Used (now vert) vertices)
-        × (length (now vert) ≡ length (now twin)) ⌝ }
-    requires { ⌜ (Kept (now vert) (length (now vert)) (now kept)) × (Tallied (now vert) (length (now vert)) (now corners)) ⌝ }
-    requires { ⌜ (vertices ≤ length (now kept)) × (vertices ≤ length (now corners)) ⌝ }
+    requires { ⌜ ForFans (now twin) (now vert) vertices × Marked (now vert) vertices (now kept) (now corners) ⌝ }
     ensures { λ r. ⌜ told r ≡ givenAt vertices (notOneFan (now (twin .entry)) (now (vert .entry))) FAN ⌝ }
 {
     let mut vertex = 0;

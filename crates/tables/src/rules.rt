@@ -1,14 +1,14 @@
 // Rules 3 to 6, each given at the lowest place where it is broken. A rule relies on those before it.
 ghost use mathlib.Core.Path.{_≡_};
 ghost use mathlib.Core.Bool.{cond};
-ghost use Prim.Native.Nat.{ℕ, _+_, _%_, _≤_, _<_};
+ghost use Prim.Native.Nat.{ℕ, _+_, _≤_, _<_};
 ghost use lib.Dec.{eqb};
 ghost use lib.ListN.{length, getD};
 ghost use Rattle.halfedges.specs.Cage.{most-halfedges, most-vertices, E, B};
 ghost use Rattle.halfedges.specs.Refusals.{TWIN, VERTEX, UNUSED, EDGE, told, givenAt};
 ghost use Rattle.tables.specs.Rules.{badTwin, badVertex, unused, badEdge};
-ghost use Rattle.tables.specs.Ruled.{Paired};
 ghost use Rattle.tables.specs.Internal.Tally.{Tallied};
+ghost use Rattle.tables.specs.Internal.Relied.{ForVertices, ForEdges, TalliedTo};
 use crate::cells::is_above;
 use crate::cells::wide;
 use halfedges::answer::Answer;
@@ -48,7 +48,7 @@ fn bad_twin(twin: &[u32], halfedge: usize) -> bool
 
 // Rule 4, where rule 3 is kept.
 pub fn check_vertices(twin: &[u32], vert: &[u32], vertices: usize) -> Answer
-    requires { ⌜ (Paired (now twin)) × (length (now twin) % 3 ≡ 0) × (length (now vert) ≡ length (now twin)) ⌝ }
+    requires { ⌜ ForVertices (now twin) (now vert) ⌝ }
     ensures { λ r. ⌜ told r ≡ givenAt (length (now (twin .entry))) (badVertex (now (twin .entry)) (now (vert .entry)) vertices) VERTEX ⌝ }
 {
     let mut halfedge = 0;
@@ -62,8 +62,7 @@ pub fn check_vertices(twin: &[u32], vert: &[u32], vertices: usize) -> Answer
 }
 
 fn bad_vertex(twin: &[u32], vert: &[u32], vertices: usize, halfedge: usize) -> bool
-    requires { ⌜ (Paired (now twin)) × (length (now twin) % 3 ≡ 0) × (length (now vert) ≡ length (now twin)) ⌝ }
-    requires { ⌜ halfedge < length (now twin) ⌝ }
+    requires { ⌜ ForVertices (now twin) (now vert) × (halfedge < length (now twin)) ⌝ }
     ensures { λ r. ⌜ r ≡ badVertex (now (twin .entry)) (now (vert .entry)) vertices halfedge ⌝ }
 {
     let next = HalfedgeTable::next(halfedge);
@@ -119,7 +118,7 @@ pub fn check_uses(vert: &[u32], vertices: usize) -> Answer
 
 // Rule 5, by a tally of each vertex's corners.
 fn first_unused(corners: &[u32], vert: &[u32], vertices: usize) -> Answer
-    requires { ⌜ (Tallied (now vert) (length (now vert)) (now corners)) × (vertices ≤ length (now corners)) ⌝ }
+    requires { ⌜ TalliedTo vertices (now vert) (now corners) ⌝ }
     ensures { λ r. ⌜ told r ≡ givenAt vertices (unused (now (vert .entry))) UNUSED ⌝ }
 {
     let mut vertex = 0;
@@ -164,7 +163,7 @@ pub fn count_borders(twin: &[u32]) -> usize
 
 // Rule 6, where rule 3 is kept.
 pub fn check_edges(twin: &[u32], edge: &[u32]) -> Answer
-    requires { ⌜ (Paired (now twin)) × (length (now edge) ≡ length (now twin)) × (length (now twin) ≤ most-halfedges) ⌝ }
+    requires { ⌜ ForEdges (now twin) (now edge) ⌝ }
     ensures { λ r.
         ⌜ told r ≡ givenAt (length (now (twin .entry)))
         (badEdge (now (twin .entry)) (now (edge .entry)) (E (now (twin .entry)))) EDGE ⌝ }
@@ -177,8 +176,7 @@ pub fn check_edges(twin: &[u32], edge: &[u32]) -> Answer
 
 // Rule 6, by a tally of each edge's carriers.
 fn first_bad_edge(carriers: &[u32], twin: &[u32], edge: &[u32], edges: usize) -> Answer
-    requires { ⌜ (Paired (now twin)) × (length (now edge) ≡ length (now twin)) × (length (now twin) ≤ most-halfedges) ⌝ }
-    requires { ⌜ (Tallied (now edge) (length (now edge)) (now carriers)) × (edges ≤ length (now carriers)) ⌝ }
+    requires { ⌜ ForEdges (now twin) (now edge) × TalliedTo edges (now edge) (now carriers) ⌝ }
     ensures { λ r. ⌜ told r ≡ givenAt (length (now (twin .entry))) (badEdge (now (twin .entry)) (now (edge .entry)) edges) EDGE ⌝ }
 {
     let mut halfedge = 0;
@@ -192,9 +190,7 @@ fn first_bad_edge(carriers: &[u32], twin: &[u32], edge: &[u32], edges: usize) ->
 }
 
 fn bad_edge(carriers: &[u32], twin: &[u32], edge: &[u32], edges: usize, halfedge: usize) -> bool
-    requires { ⌜ (Paired (now twin)) × (length (now edge) ≡ length (now twin)) × (length (now twin) ≤ most-halfedges) ⌝ }
-    requires { ⌜ (Tallied (now edge) (length (now edge)) (now carriers)) × (edges ≤ length (now carriers)) ⌝ }
-    requires { ⌜ halfedge < length (now twin) ⌝ }
+    requires { ⌜ ForEdges (now twin) (now edge) × TalliedTo edges (now edge) (now carriers) × (halfedge < length (now twin)) ⌝ }
     ensures { λ r. ⌜ r ≡ badEdge (now (twin .entry)) (now (edge .entry)) edges halfedge ⌝ }
 {
     let number = wide(edge[halfedge]);

@@ -6,6 +6,7 @@ use Rattle.halfedges.specs.Refusals.{TWIN, VERTEX, UNUSED, FAN}
 use Rattle.halfedges.proofs.Checks.{passed-clean, number-zero, answered, passed-on, given-alone}
 use Rattle.tables.specs.Ruled.{Paired, Placed, Used}
 use Rattle.tables.specs.Check.{rules}
+use Rattle.tables.specs.Internal.Walks.{Walkable}
 use Rattle.tables.proofs.Meaning.{paired, placed, used}
 use Rattle.tables.proofs.check.check_rules.Statement.{statement}
 use Rattle.tables.proofs.check.check_rules.Tie as tie
@@ -31,7 +32,7 @@ unfolding rules
 returns c = answered (c .before .before .check-twins .ensures) (c .before .number .ensures) _ (c .if1 .taken)
 
 check-vertices-requires : tie.Need-check-vertices-requires
-check-vertices-requires c κs = let s = c .before .before .before .before .before .before in (twins c, s .pre .0 .whole, s .pre .0 .vert-long)
+check-vertices-requires c κs = let s = c .before .before .before .before .before .before in record { paired = twins c; whole = s .pre .0 .whole; long = s .pre .0 .vert-long }
 
 number-requires-2 : tie.Need-number-requires-2
 number-requires-2 c κs = search needs
@@ -59,7 +60,7 @@ returns-3 c =
     ∙ passed-on (three .before .before .check-twins .ensures) (three .before .number .ensures) _ (three .if1 .left)
 
 check-edges-requires : tie.Need-check-edges-requires
-check-edges-requires c κs = let s = c .before .before .before .before .before .before .before .before .before .before .before .before in (twins (c .before .before .before .before .before .before), s .pre .0 .edge-long, s .pre .1 .0)
+check-edges-requires c κs = let s = c .before .before .before .before .before .before .before .before .before .before .before .before in record { paired = twins (c .before .before .before .before .before .before); long = s .pre .0 .edge-long; few = s .pre .1 .0 }
 
 number-requires-4 : tie.Need-number-requires-4
 number-requires-4 c κs = search needs
@@ -81,7 +82,8 @@ check-fans-requires c κs =
     let four = five .before .before .before in
     let three = four .before .before .before in
     let s = three .before .before .before .before .before .before in
-    ((twins three, places four, uses five), (s .pre .0 .whole, s .pre .0 .vert-long, s .pre .1 .0, s .pre .1 .1))
+    let walkable : Walkable (s .args .twin .now) = record { paired = twins three; whole = s .pre .0 .whole; few = s .pre .1 .0 } in
+    (record { walkable = walkable; placed = places four; used = uses five; long = s .pre .0 .vert-long }, s .pre .1 .1)
 
 returns-5 : tie.Need-returns-5
 unfolding rules

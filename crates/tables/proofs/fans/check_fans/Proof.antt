@@ -9,13 +9,13 @@ slice-aggregate-keep-corners : tie.Need-slice-aggregate-keep-corners
 slice-aggregate-keep-corners c = search needs
 
 keep-corners-requires : tie.Need-keep-corners-requires
-keep-corners-requires c κs = let s = c .before .before .before in (omega (arith, s .pre .1 .1, s .pre .1 .2), λ h l. omega (arith, s .pre .1 .1, s .pre .1 .3, s .pre .0 .1 .below h (omega (arith, s .pre .1 .1))))
+keep-corners-requires c κs = let s = c .before .before .before in (omega arith, λ h l. omega (arith, s .pre .0 .placed .below h (omega arith)))
 
 slice-aggregate-count-numbers : tie.Need-slice-aggregate-count-numbers
 slice-aggregate-count-numbers c = search needs
 
 count-numbers-requires : tie.Need-count-numbers-requires
-count-numbers-requires c κs = let s = c .before .before .before .before .before .before in (omega (arith, s .pre .1 .1, s .pre .1 .2), record { each = λ x l. getD-replicate 2048 x 0 0 l })
+count-numbers-requires c κs = let s = c .before .before .before .before .before .before in (omega arith, record { each = λ x l. getD-replicate 2048 x 0 0 l })
 
 slice-aggregate-first-not-one-fan : tie.Need-slice-aggregate-first-not-one-fan
 slice-aggregate-first-not-one-fan c = search needs
@@ -27,10 +27,8 @@ first-not-one-fan-requires : tie.Need-first-not-one-fan-requires
 first-not-one-fan-requires c κs =
     let n = c .before .before .before in
     let k = n .before .before .before in
-    let s = k .before .before .before .before in (
-      (record { paired = s .pre .0 .0; whole = s .pre .1 .0; few = s .pre .1 .2 }, s .pre .0 .1, s .pre .0 .2, s .pre .1 .1),
-      ((k .keep-corners .ensures, n .count-numbers .ensures), (omega (arith, s .pre .1 .3, k .keep-corners .kept .1 .0), omega (arith, s .pre .1 .3, n .count-numbers .kept .1 .0))),
-    )
+    let s = k .before .before .before .before in
+    (s .pre .0, record { corner = k .keep-corners .ensures; room = omega (arith, k .keep-corners .kept .1 .0); tally = record { counted = n .count-numbers .ensures; room = omega (arith, n .count-numbers .kept .1 .0) } })
 
 returns : tie.Need-returns
 returns c = search needs

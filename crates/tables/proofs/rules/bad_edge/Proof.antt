@@ -13,10 +13,10 @@ use Rattle.tables.proofs.rules.bad_edge.Tie as tie
 
 -- what the tally says of a halfedge's edge
 carriers-of : (s : tie.Start) → cell (s .args .edge .now) (s .args .halfedge) < s .args .edges → getD (s .args .carriers .now) (cell (s .args .edge .now) (s .args .halfedge)) 0 ≡ count (length (s .args .edge .now)) (leaves (s .args .edge .now) (cell (s .args .edge .now) (s .args .halfedge)))
-carriers-of s l = s .pre .1 .0 .0 .each _ (omega (arith, s .pre .1 .0 .1))
+carriers-of s l = s .pre .1 .counted .each _ (omega (arith, s .pre .1 .room))
 
 twin-inside : (c : tie.After-wide2) → c .wide2 .result < length (c .before .before .before .before .before .before .before .before .before .args .edge .now)
-twin-inside c = let s = c .before .before .before .before .before .before .before .before .before in omega (arith, c .wide2 .ensures, s .pre .0 .1, s .pre .0 .0 .below _ (s .pre .1 .1) (c .before .if2 .left))
+twin-inside c = let s = c .before .before .before .before .before .before .before .before .before in omega (arith, c .wide2 .ensures, s .pre .0 .long, s .pre .0 .paired .below _ (s .pre .2) (c .before .if2 .left))
 
 mul-wide : tie.Need-mul-wide
 mul-wide c = search needs
@@ -47,7 +47,7 @@ returns-2 c =
     let w = c .before .before .before .before in
     let s = w .before .before .before .before .before in
     let l = rw (w .wide .ensures) at (c .before .before .before .if1 .left) in
-    rw (w .wide .ensures, carriers-of s l) (edge-none _ _ _ _ (s .pre .0 .1) (omega (arith, s .pre .0 .2)) (s .pre .1 .1) l (c .before .if2 .taken))
+    rw (w .wide .ensures, carriers-of s l) (edge-none _ _ _ _ (s .pre .0 .long) (omega (arith, s .pre .0 .few)) (s .pre .2) l (c .before .if2 .taken))
 
 wide-requires-2 : tie.Need-wide-requires-2
 wide-requires-2 c κs = search needs
@@ -69,7 +69,7 @@ returns-3 c =
     let w = c .before .before .before .before .before .before .before in
     let s = w .before .before .before .before .before in
     let l = rw (w .wide .ensures) at (c .before .before .before .before .before .before .if1 .left) in
-    edge-differs _ _ _ _ (s .pre .0 .1) (omega (arith, s .pre .0 .2)) (s .pre .1 .1) l (s .pre .0 .0) (c .before .before .before .before .if2 .left) (λ e. c .if3 .taken (ap (cell (s .args .edge .now)) (c .before .before .before .wide2 .ensures) ∙ e))
+    edge-differs _ _ _ _ (s .pre .0 .long) (omega (arith, s .pre .0 .few)) (s .pre .2) l (s .pre .0 .paired) (c .before .before .before .before .if2 .left) (λ e. c .if3 .taken (ap (cell (s .args .edge .now)) (c .before .before .before .wide2 .ensures) ∙ e))
 
 mul-result-2 : tie.Need-mul-result-2
 mul-result-2 c = search needs
@@ -83,7 +83,7 @@ returns-4 c =
     let s = w .before .before .before .before .before in
     let l = rw (w .wide .ensures) at (c .before .before .before .before .before .before .before .if1 .left) in
     rw (w .wide .ensures, carriers-of s l)
-    (edge-twin _ _ _ _ (s .pre .0 .1) (omega (arith, s .pre .0 .2)) (s .pre .1 .1) l (s .pre .0 .0) (c .before .before .before .before .before .if2 .left) (sym (ap (cell (s .args .edge .now)) (c .before .before .before .before .wide2 .ensures)) ∙ c .before .if3 .left))
+    (edge-twin _ _ _ _ (s .pre .0 .long) (omega (arith, s .pre .0 .few)) (s .pre .2) l (s .pre .0 .paired) (c .before .before .before .before .before .if2 .left) (sym (ap (cell (s .args .edge .now)) (c .before .before .before .before .wide2 .ensures)) ∙ c .before .if3 .left))
 
 pub bad-edge-spec : {M : Type 1} → statement M
 bad-edge-spec =

@@ -11,10 +11,10 @@ use Rattle.tables.proofs.rules.bad_vertex.Statement.{statement}
 use Rattle.tables.proofs.rules.bad_vertex.Tie as tie
 
 next-inside : (c : tie.After-next) → c .next .result < length (c .before .before .before .args .vert .now)
-next-inside c = let s = c .before .before .before in omega (arith, c .next .ensures, s .pre .0 .2, next-below (s .pre .0 .1) (s .pre .1))
+next-inside c = let s = c .before .before .before in omega (arith, c .next .ensures, s .pre .0 .long, next-below (s .pre .0 .whole) (s .pre .1))
 
 twin-inside : (c : tie.After-wide2) → c .wide2 .result < length (c .before .before .before .before .before .before .before .before .before .before .before .before .args .vert .now)
-twin-inside c = let s = c .before .before .before .before .before .before .before .before .before .before .before .before in omega (arith, c .wide2 .ensures, s .pre .0 .2, s .pre .0 .0 .below _ (s .pre .1) (c .before .if3 .left))
+twin-inside c = let s = c .before .before .before .before .before .before .before .before .before .before .before .before in omega (arith, c .wide2 .ensures, s .pre .0 .long, s .pre .0 .paired .below _ (s .pre .1) (c .before .if3 .left))
 
 next-requires : tie.Need-next-requires
 next-requires c κs = search needs

@@ -27,7 +27,7 @@ unfolding E
 first-bad-edge-requires c κs =
     let s = c .before .before .before .before .before .before .before in
     let n = count-at-most (length (s .args .twin .now)) (above (s .args .twin .now)) in
-    ((s .pre .0, s .pre .1, s .pre .2), (c .before .before .count-numbers .ensures, omega (arith, s .pre .2, c .before .before .before .before .count-edges .ensures, c .before .before .count-numbers .kept .1 .0)))
+    (s .pre, record { counted = c .before .before .count-numbers .ensures; room = omega (arith, s .pre .few, c .before .before .before .before .count-edges .ensures, c .before .before .count-numbers .kept .1 .0) })
 
 returns : tie.Need-returns
 returns c = let s = c .before .before .before .before .before .before .before .before in c .first-bad-edge .ensures ∙ ap (λ e. givenAt (length (s .args .twin .now)) (badEdge (s .args .twin .now) (s .args .edge .now) e) EDGE) (c .before .before .before .before .before .count-edges .ensures)

@@ -1,31 +1,28 @@
 -- `first_bad_edge` goes up to the first halfedge that is bad.
 use borrow.Author.Needs.{needs}
-use Prim.Native.Nat.{_-_, _≤_}
-use mathlib.Core.Path.{_≡_, sym, _∙_}
-use native.Mathlib.Omega.{arith}
+use Prim.Native.Nat.{_-_}
 use lib.ListN.{length}
-use borrow.Author.Count.{below-none, below-more}
-use Rattle.halfedges.proofs.Checks.{Clean, given-here, clean-done}
 use Rattle.tables.specs.Rules.{badEdge}
+use Rattle.tables.proofs.Upto.{Upto, upto-none, upto-more, upto-found, upto-all}
 use Rattle.tables.proofs.rules.first_bad_edge.Statement.{statement}
 use Rattle.tables.proofs.rules.first_bad_edge.Tie as tie
 
 abbrev Inv-loop : tie.InvT-loop
-Inv-loop carriers twin edge edges halfedge₀ halfedge = (halfedge ≤ length twin) × Clean halfedge (badEdge twin edge edges)
+Inv-loop carriers twin edge edges halfedge₀ halfedge = Upto (length twin) (badEdge twin edge edges) halfedge
 
 abbrev μ-loop : tie.MeasureT-loop
 μ-loop carriers twin edge edges halfedge₀ halfedge = length twin - halfedge
 
 loop-holds : tie.Need-loop-holds Inv-loop μ-loop
-loop-holds c = (search needs, below-none (λ k. badEdge _ _ _ k ≡ _))
+loop-holds c = upto-none _ _
 
 bad-edge-requires : tie.Need-bad-edge-requires Inv-loop μ-loop
-bad-edge-requires c κs = let s = c .before .before .before .before .before in (s .pre .0, (s .pre .1, search needs))
+bad-edge-requires c κs = let s = c .before .before .before .before .before in (s .pre .0, s .pre .1, search needs)
 
 returns : tie.Need-returns Inv-loop μ-loop
 returns c =
-    let i = c .before .before .before .loop in
-    sym (given-here _ _ _ (i .halfedge) (search needs) (sym (c .before .bad-edge .ensures) ∙ c .if1 .taken) (i .inv .1))
+    let l = c .before .before in
+    upto-found _ (l .before .loop .inv) (l .loop-test .taken) (c .before .bad-edge .ensures) (c .if1 .taken)
 
 add-halfedge : tie.Need-add-halfedge Inv-loop μ-loop
 add-halfedge c = search needs
@@ -35,11 +32,11 @@ loop-less c = search needs
 
 loop-again : tie.Need-loop-again Inv-loop μ-loop
 loop-again c =
-    let i = c .before .before .before .loop in
-    (search needs, below-more (λ k. badEdge _ _ _ k ≡ _) _ (i .inv .1) (sym (c .before .bad-edge .ensures) ∙ c .if1 .left))
+    let l = c .before .before in
+    upto-more (l .before .loop .inv) (l .loop-test .taken) (c .before .bad-edge .ensures) (c .if1 .left)
 
 returns-2 : tie.Need-returns-2 Inv-loop μ-loop
-returns-2 c = sym (clean-done _ _ _ (λ k l. c .before .loop .inv .1 k (omega arith)))
+returns-2 c = upto-all _ (c .before .loop .inv) (c .loop-test .left)
 
 pub first-bad-edge-spec : {M : Type 1} → statement M
 first-bad-edge-spec =
