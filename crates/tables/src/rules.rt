@@ -66,10 +66,12 @@ fn bad_vertex(twin: &[u32], vert: &[u32], vertices: usize, halfedge: usize) -> b
     ensures { λ r. ⌜ r ≡ badVertex (now (twin .entry)) (now (vert .entry)) vertices halfedge ⌝ }
 {
     let next = HalfedgeTable::next(halfedge);
-    if vertices <= wide(vert[halfedge]) {
+    let from = vert[halfedge];
+    if vertices <= wide(from) {
         return true;
     }
-    if vert[halfedge] == vert[next] {
+    let to = vert[next];
+    if from == to {
         return true;
     }
     let t = twin[halfedge];
@@ -77,7 +79,7 @@ fn bad_vertex(twin: &[u32], vert: &[u32], vertices: usize, halfedge: usize) -> b
         return false;
     }
     let other = wide(t);
-    vert[other] != vert[next]
+    vert[other] != to
 }
 
 // How often a table holds each number that tally has a cell for, which starts with zeros.
@@ -193,7 +195,8 @@ fn bad_edge(carriers: &[u32], twin: &[u32], edge: &[u32], edges: usize, halfedge
     requires { ⌜ ForEdges (now twin) (now edge) × TalliedTo edges (now edge) (now carriers) × (halfedge < length (now twin)) ⌝ }
     ensures { λ r. ⌜ r ≡ badEdge (now (twin .entry)) (now (edge .entry)) edges halfedge ⌝ }
 {
-    let number = wide(edge[halfedge]);
+    let own = edge[halfedge];
+    let number = wide(own);
     if edges <= number {
         return true;
     }
@@ -202,7 +205,7 @@ fn bad_edge(carriers: &[u32], twin: &[u32], edge: &[u32], edges: usize, halfedge
         return carriers[number] != 1;
     }
     let other = wide(t);
-    if edge[other] != edge[halfedge] {
+    if edge[other] != own {
         return true;
     }
     carriers[number] != 2

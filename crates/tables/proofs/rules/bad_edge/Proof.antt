@@ -18,11 +18,11 @@ carriers-of s l = s .pre .1 .counted .each _ (omega (arith, s .pre .1 .room))
 twin-inside : (c : tie.After-wide2) → c .wide2 .result < length (c .before .before .before .before .before .before .before .before .before .args .edge .now)
 twin-inside c = let s = c .before .before .before .before .before .before .before .before .before in omega (arith, c .wide2 .ensures, s .pre .0 .long, s .pre .0 .paired .below _ (s .pre .2) (c .before .if2 .left))
 
-mul-wide : tie.Need-mul-wide
-mul-wide c = search needs
+mul-own : tie.Need-mul-own
+mul-own c = search needs
 
-shared-slice-read-wide : tie.Need-shared-slice-read-wide
-shared-slice-read-wide c = search needs
+shared-slice-read-own : tie.Need-shared-slice-read-own
+shared-slice-read-own c = search needs
 
 wide-requires : tie.Need-wide-requires
 wide-requires c κs = search needs
@@ -58,18 +58,12 @@ mul-if3 c = omega (arith, twin-inside c)
 shared-slice-read-if3 : tie.Need-shared-slice-read-if3
 shared-slice-read-if3 c = twin-inside (c .before)
 
-mul-if3-2 : tie.Need-mul-if3-2
-mul-if3-2 c = search needs
-
-shared-slice-read-if3-2 : tie.Need-shared-slice-read-if3-2
-shared-slice-read-if3-2 c = search needs
-
 returns-3 : tie.Need-returns-3
 returns-3 c =
-    let w = c .before .before .before .before .before .before .before in
+    let w = c .before .before .before .before .before .before in
     let s = w .before .before .before .before .before in
-    let l = rw (w .wide .ensures) at (c .before .before .before .before .before .before .if1 .left) in
-    edge-differs _ _ _ _ (s .pre .0 .long) (omega (arith, s .pre .0 .few)) (s .pre .2) l (s .pre .0 .paired) (c .before .before .before .before .if2 .left) (λ e. c .if3 .taken (ap (cell (s .args .edge .now)) (c .before .before .before .wide2 .ensures) ∙ e))
+    let l = rw (w .wide .ensures) at (c .before .before .before .before .before .if1 .left) in
+    edge-differs _ _ _ _ (s .pre .0 .long) (omega (arith, s .pre .0 .few)) (s .pre .2) l (s .pre .0 .paired) (c .before .before .before .if2 .left) (λ e. c .if3 .taken (ap (cell (s .args .edge .now)) (c .before .before .wide2 .ensures) ∙ e))
 
 mul-result-2 : tie.Need-mul-result-2
 mul-result-2 c = search needs
@@ -79,18 +73,18 @@ shared-slice-read-result-2 c = search needs
 
 returns-4 : tie.Need-returns-4
 returns-4 c =
-    let w = c .before .before .before .before .before .before .before .before in
+    let w = c .before .before .before .before .before .before .before in
     let s = w .before .before .before .before .before in
-    let l = rw (w .wide .ensures) at (c .before .before .before .before .before .before .before .if1 .left) in
+    let l = rw (w .wide .ensures) at (c .before .before .before .before .before .before .if1 .left) in
     rw (w .wide .ensures, carriers-of s l)
-    (edge-twin _ _ _ _ (s .pre .0 .long) (omega (arith, s .pre .0 .few)) (s .pre .2) l (s .pre .0 .paired) (c .before .before .before .before .before .if2 .left) (sym (ap (cell (s .args .edge .now)) (c .before .before .before .before .wide2 .ensures)) ∙ c .before .if3 .left))
+    (edge-twin _ _ _ _ (s .pre .0 .long) (omega (arith, s .pre .0 .few)) (s .pre .2) l (s .pre .0 .paired) (c .before .before .before .before .if2 .left) (sym (ap (cell (s .args .edge .now)) (c .before .before .before .wide2 .ensures)) ∙ c .before .if3 .left))
 
 pub bad-edge-spec : {M : Type 1} → statement M
 bad-edge-spec =
     tie.close
     (tie.spec
-    mul-wide
-    shared-slice-read-wide
+    mul-own
+    shared-slice-read-own
     wide-requires
     returns
     mul-t
@@ -101,8 +95,6 @@ bad-edge-spec =
     wide-requires-2
     mul-if3
     shared-slice-read-if3
-    mul-if3-2
-    shared-slice-read-if3-2
     returns-3
     mul-result-2
     shared-slice-read-result-2
