@@ -2,7 +2,7 @@
 --     refused-listing, answered-listing      the reply to a checked cage
 --     cage-reply, cage-small         a cage that was checked, and the counts of one that is accepted
 --     file-reply, H-kept, V-kept     a file that was read, and the counts of one that reads
---     unread-reply, read-reply       the reply to what was read
+--     unread-checked, read-reply     the reply to what was read
 use Prim.Native.Nat.{ℕ, _*_, _≤_}
 use mathlib.Core.Path.{_≡_, refl, sym, ap, _∙_}
 use mathlib.Core.Logic.{_≢_}
@@ -119,9 +119,15 @@ module _ (c : Tables) (points : List ℤ) (r : Checked) (e : checked r ≡ check
 -- ---- a file
 
 module _ (r : Reading) (t : Tables) (points : List ℤ) where
-  pub unread-reply : told (r .answer) .number ≢ 0 → refused (told (r .answer)) ≡ readListing r t points
+  unread-reply : told (r .answer) .number ≢ 0 → refused (told (r .answer)) ≡ readListing r t points
   unfolding readListing
   unread-reply n = rw (ne-eqb (told (r .answer) .number) 0 n)
+
+  -- the refusal of a file, told on
+  pub unread-checked : (c : Checked) → told (c .answer) ≡ told (r .answer) → told (r .answer) .number ≢ 0 → Small c × (checkedListing c ≡ readListing r t points)
+  unread-checked c e n =
+      let m : told (c .answer) .number ≢ 0 = λ z. n (sym (ap (λ v. v .number) e) ∙ z) in
+      (record { few-counts = λ z. absurd (m z); few-borders = λ z. absurd (m z) }, sym (refused-listing c m) ∙ ap refused e ∙ unread-reply n)
 
   pub read-reply : told (r .answer) .number ≡ 0 → cageListing (front r t) (take (3 * r .vertices) points) ≡ readListing r t points
   unfolding readListing

@@ -18,6 +18,7 @@ ghost use Rattle.lister.specs.Internal.Steps.{Held, readListing, Small, 
 use halfedges::table::HalfedgeTable;
 use halfedges::table::Levels;
 use reading::Reading;
+use tables::check;
 use tables::check::Checked;
 use text::lines;
 use text::lines::LevelCounts;
@@ -53,14 +54,7 @@ fn check_read(reading: Reading, twin: &[u32], vert: &[u32], edge: &[u32], points
 {
     let answer = reading.answer;
     if answer.number() != 0 {
-        return Checked {
-            answer,
-            halfedges: 0,
-            edges: 0,
-            triangles: 0,
-            vertices: 0,
-            borders: 0,
-        };
+        return check::answered(answer, twin, 0);
     }
     let halfedges = reading.halfedges;
     let coordinates = 3 * reading.vertices;

@@ -15,19 +15,8 @@ pub struct Input {
     pub failed: bool,
 }
 
-// Reads standard input as far as the buffer takes it, and tells a read that fails.
+// Reads standard input until the buffer is full, the input ends or a read fails, which is told. A pipe may hand over a part at a time.
 pub fn read(buffer: &mut [u8]) -> Input
-    ensures { λ r. ⌜ Counts (r .length) (now (buffer .exit)) ⌝ }
-{
-    let input = fill(&mut *buffer);
-    if input.failed {
-        fail(b"ryebadger: the input cannot be read\n");
-    }
-    input
-}
-
-// Reads until the buffer is full, the input ends or a read fails. A pipe may hand over a part at a time.
-fn fill(buffer: &mut [u8]) -> Input
     ensures { λ r. ⌜ Counts (r .length) (now (buffer .exit)) ⌝ }
 {
     let mut done = 0;
@@ -53,6 +42,7 @@ fn read_part(part: &mut [u8]) -> Input
 {
     let got = libc::read(STDIN_FILENO, &mut *part);
     if got < 0 {
+        fail(b"ryebadger: the input cannot be read\n");
         return Input {
             length: 0,
             failed: true,

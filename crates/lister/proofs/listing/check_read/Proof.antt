@@ -1,16 +1,15 @@
 -- Where the file reads, the cage at the tables' fronts is checked; where it does not, there is none.
 use borrow.Author.Needs.{needs}
-use mathlib.Core.Path.{_≡_, sym, _∙_}
-use mathlib.Core.Logic.{_≢_}
+use mathlib.Core.Path.{_≡_, sym, ap, _∙_}
 use lib.IntN.{ℤ}
 use mathlib.Core.List.{List}
 use native.Mathlib.Omega.{arith}
 use lib.Seq.{length-take-le}
-use Rattle.halfedges.specs.Refusals.{told}
+use Rattle.halfedges.specs.Refusals.{told, said}
 use Rattle.tables.specs.Tables.{Tables, tables}
 use Rattle.reading.specs.declared.Reading.{Reading}
 use Rattle.lister.specs.Internal.Steps.{Held}
-use Rattle.lister.proofs.Outcomes.{refused-listing, cage-reply, cage-small, unread-reply, read-reply}
+use Rattle.lister.proofs.Outcomes.{cage-reply, cage-small, unread-checked, read-reply}
 use Rattle.lister.proofs.listing.check_read.Statement.{statement}
 use Rattle.lister.proofs.listing.check_read.Tie as tie
 
@@ -37,12 +36,14 @@ module _ (i : tie.Else1) where
 number-requires : tie.Need-number-requires
 number-requires c κs = search needs
 
+answered-requires : tie.Need-answered-requires
+answered-requires c κs = search needs
+
 returns : tie.Need-returns
+unfolding said
 returns c =
-    let n = c .before in
-    let s = n .before .before .before .before .args in
-    let some : told (s .reading .answer) .number ≢ 0 = λ z. c .if1 .taken (n .number .ensures ∙ z) in
-    (record { few-counts = λ _. search needs; few-borders = λ _. omega arith }, sym (refused-listing _ some) ∙ unread-reply (s .reading) _ _ some)
+    let n = c .before .before in
+    unread-checked (n .before .before .before .before .args .reading) _ _ (c .answered .result) (ap (λ s. s .verdict) (c .answered .ensures)) (λ z. c .before .if1 .taken (n .number .ensures ∙ z))
 
 mul-coordinates : tie.Need-mul-coordinates
 mul-coordinates c = omega (arith, fits (c .before) .coordinates)
@@ -74,6 +75,7 @@ check-read-spec =
     tie.close
     (tie.spec
     number-requires
+    answered-requires
     returns
     mul-coordinates
     slice-aggregate-check-cage

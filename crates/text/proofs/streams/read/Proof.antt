@@ -1,11 +1,11 @@
--- `fill` stays within its buffer, and each turn reads something.
+-- `read` stays within its buffer, and each turn reads something.
 use borrow.Author.Needs.{needs}
 use Prim.Native.Nat.{_-_, _≤_}
 use mathlib.Core.Path.{_≡_, sym}
 use lib.ListN.{length}
 use lib.Seq.{length-take-le}
-use Rattle.text.proofs.streams.fill.Statement.{statement}
-use Rattle.text.proofs.streams.fill.Tie as tie
+use Rattle.text.proofs.streams.read.Statement.{statement}
+use Rattle.text.proofs.streams.read.Tie as tie
 
 abbrev Inv-loop : tie.InvT-loop
 Inv-loop buffer₀ done₀ buffer done = (length buffer ≡ length buffer₀) × (done ≤ length buffer)
@@ -49,8 +49,8 @@ same-length-2 c = search needs
 returns-2 : tie.Need-returns-2 Inv-loop μ-loop
 returns-2 c = (search needs, sym (length-take-le _ _ (search needs)))
 
-pub fill-spec : {M : Type 1} → statement M
-fill-spec =
+pub read-spec : {M : Type 1} → statement M
+read-spec =
     tie.close
     (tie.spec
     Inv-loop
