@@ -15,7 +15,8 @@ use Rattle.text.specs.Numbers.{numberAt}
 use Rattle.text.proofs.Numerals.{Soon, found-soon}
 use Rattle.counter.specs.declared.question.Question.{Question}
 use Rattle.counter.specs.declared.question.Question.the-variants.{Unasked}
-use Rattle.counter.specs.Counting.{withNumber, asked, longest, replyTo, countReply}
+use Rattle.counter.specs.Counting.{withNumber, asked, replyTo, countReply}
+use Rattle.counter.specs.Internal.Buffer.{longest}
 
 -- a question that goes on where a number ends, wherever that is, is none
 unasked : (at : ℕ) (r : Number) (next : ℕ → ℕ → Question) → Soon at r → ((value i : ℕ) → i ≤ at + 21 → next value i ≡ Unasked) → withNumber r next ≡ Unasked

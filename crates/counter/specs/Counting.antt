@@ -30,10 +30,6 @@ asked text =
     withNumber (numberAt text j space) (λ v k.
     withNumber (numberAt text k newline) (λ depth end. cond (eqb end (length text)) (Asked h e v depth) Unasked))))
 
--- four numbers of twenty digits, and a byte after each
-abbrev pub longest : ℕ
-longest = 84
-
 -- what is said where no question was asked
 abbrev pub usage : List ℕ
 usage =

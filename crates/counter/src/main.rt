@@ -1,7 +1,7 @@
 // The count question: H, E, V and a depth on standard input, the counts of levels 0 to the depth on standard output.
 ghost use Prim.Native.Nat.{_<_};
 ghost use lib.ListN.{length};
-ghost use Rattle.counter.specs.Counting.{longest};
+ghost use Rattle.counter.specs.Internal.Buffer.{longest};
 
 mod counting;
 mod question;

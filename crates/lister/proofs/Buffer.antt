@@ -9,7 +9,8 @@ use lib.Seq.{take-all}
 use borrow.Author.Tests.{ne-eqb}
 use Rattle.reading.specs.Reading.{readVerdict}
 use Rattle.filelaws.proofs.Prefix.{too-long, longer-alike}
-use Rattle.lister.specs.Listing.{longest, roomy, roomyPoints, listing}
+use Rattle.lister.specs.Internal.Buffer.{longest}
+use Rattle.lister.specs.Listing.{roomy, roomyPoints, listing}
 
 pub front-listed : (f : List ℕ) (n : ℕ) → longest < n → listing (take n f) ≡ listing f
 unfolding listing

@@ -1,3 +1,4 @@
 -- What only contracts between functions cite.
 pub mod Doubling
 pub mod Steps
+pub mod Buffer

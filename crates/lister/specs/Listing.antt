@@ -1,5 +1,5 @@
 -- Document 01, "The level lister": what is printed for a file's bytes.
-use Prim.Native.Nat.{ℕ, _+_, _*_}
+use Prim.Native.Nat.{ℕ, _*_}
 use mathlib.Core.List.{List, [], _∷_, _++_}
 use lib.IntN.{ℤ, pos}
 use lib.ListN.{replicate}
@@ -15,10 +15,6 @@ use Rattle.points.specs.Operations.{vertices, checkCage}
 use Rattle.reading.specs.Reading.{twinsIn, vertsIn, edgesIn, pointsIn, readVerdict}
 use Rattle.text.specs.Lines.{decimal, line, levelWords, roomLine}
 use Rattle.text.specs.Replies.{Reply, answered, refused}
-
--- the longest file that reads: 24 + 6H + 12V bytes at the limits
-abbrev pub longest : ℕ
-longest = 24 + 6 * most-halfedges + 12 * most-vertices
 
 -- "level, H, E, F, V, B" of level k, whose B is borders k
 abbrev pub levelLine : Levels → (ℕ → ℕ) → ℕ → List ℕ

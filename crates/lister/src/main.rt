@@ -1,7 +1,7 @@
 // The level lister: one cage file on standard input, the counts of its seven levels on standard output.
 ghost use Prim.Native.Nat.{_<_};
 ghost use lib.ListN.{length};
-ghost use Rattle.lister.specs.Listing.{longest};
+ghost use Rattle.lister.specs.Internal.Buffer.{longest};
 
 mod listing;
 
