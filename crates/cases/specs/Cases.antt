@@ -99,5 +99,8 @@ cases =
 -- ---- the statement
 
 pub as-document-01-says : map (λ c. c .gives) cases ≡ map (λ c. c .says) cases
-unfolding NEXT PREV above E B given givenAt short first said filled countsAt seven levels countShape aboveLimit countQuestion misshapen badTwin badVertex unused stranger badEdge met joined notOneFan rows newTwin newEdge newVert nextTwins nextEdges nextVerts level rules returned shortTables filledTables levelsEndToEnd round E1 E2 V2 V3 corners spokeEnds creaseEnds vertexPoint edgePoint newPoint nextPoints levelPoints outOfRange cageChecks checkCage refineVerdict refineCage
+unfolding NEXT PREV above E B given givenAt short first said filled countsAt seven levels countShape aboveLimit countQuestion
+    misshapen badTwin badVertex unused stranger badEdge met joined notOneFan rows newTwin newEdge newVert nextTwins nextEdges
+    nextVerts level rules returned shortTables filledTables levelsEndToEnd round E1 E2 V2 V3 corners spokeEnds creaseEnds
+    vertexPoint edgePoint newPoint nextPoints levelPoints outOfRange cageChecks checkCage refineVerdict refineCage
 as-document-01-says = refl
