@@ -18,9 +18,8 @@ use Rattle.halfedges.proofs.Triangle.{next-below, prev-below}
 use Rattle.edgepoints.specs.declared.edges.Halfedge.{Halfedge}
 use Rattle.points.specs.PointRules.{E2}
 use Rattle.points.specs.NextPoints.{coordinate, far, edgePoint, carrier}
-use Rattle.points.specs.Operations.{most-coordinate}
+use Rattle.points.specs.Operations.{most-coordinate, InRange}
 use Rattle.points.specs.Internal.Relied.{Carried}
-use Rattle.points.specs.Operations.{InRange}
 use Rattle.points.specs.Internal.Cells.{value, put, pointOf}
 use Rattle.points.specs.Internal.Parts.{started, finished}
 use Rattle.edgepoints.specs.Internal.Edges.{halfedgeOf, Edged, Started, putEdge}

@@ -17,8 +17,7 @@ use borrow.Author.Tests.{eq-eqb, ne-eqb, eqb-true, not-true}
 use Rattle.laws.specs.Below.{sum, count, any}
 use Rattle.laws.proofs.Tests.{true-any, false-any}
 use Rattle.laws.proofs.Least.{least}
-use Rattle.laws.proofs.Sums.{sum-at-most}
-use Rattle.laws.proofs.Sums.{sum-same, sum-add, sum-ones, sum-triples}
+use Rattle.laws.proofs.Sums.{sum-at-most, sum-same, sum-add, sum-ones, sum-triples}
 use Rattle.laws.proofs.Turnings.{sum-turned}
 use Rattle.laws.proofs.Pigeonhole.{some-counted, count-at-most-one, sum-of-counts, and-both}
 use Rattle.halfedges.specs.Cage.{NEXT, F, marker, cell, border}

@@ -3,7 +3,8 @@
 --     subℕ-pos, subℕ-neg, neg-add           a difference of two numbers, by which is more
 --     zero-of-natAbs, pos-of                a number by its size
 --     add-swap                              a sum of four
---     small-fits, back-of, widened          a small number fits its bits, and is read back from them
+--     small-fits, scaled-fits               a small number fits its bits, and so does a small multiple with another added
+--     back-of, widened                      and is read back from them
 use Prim.Native.Nat.{ℕ, zero, suc, _+_, _-_, _*_, _^_, _≤_, _<_}
 use mathlib.Core.Path.{_≡_, refl, sym, ap, _∙_}
 use native.Mathlib.Decide.{decLe}
@@ -74,6 +75,11 @@ mag-at-most (negsuc n) = omega arith
 
 pub small-fits : (w : Width) (z : ℤ) → natAbs z < 2 ^ hbits w → SFits w z
 small-fits w z l = record { sfits = lt-of-le-of-lt (mag-at-most z) l }
+
+-- a multiple of a number, and that with another added
+pub scaled-fits : (w : Width) (k : ℕ) (x a : ℤ) → k * natAbs x + natAbs a < 2 ^ hbits w → SFits w (pos k *ℤ x) × SFits w (pos k *ℤ x +ℤ a)
+scaled-fits w k x a l =
+    (small-fits w _ (omega (arith, natAbs-mul (pos k) x)), small-fits w _ (omega (arith, natAbs-mul (pos k) x, natAbs-add (pos k *ℤ x) a)))
 
 -- `back-of w _ (c .call .ok)`
 pub back-of : (w : Width) (z : ℤ) → mag z < 2 ^ hbits w → toZ w (ofZ w z) ≡ z

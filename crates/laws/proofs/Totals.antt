@@ -1,7 +1,7 @@
 -- Laws of sums of whole numbers. Assumes nothing.
 --     total-append, take-out              of a list: in two parts, and one of them first
 --     scan, scan-more, scan-at-most       of f over the numbers below n that pass a test
---     isum, isum-split, scan-isum         of f below n
+--     sumBelow, sumBelow-split            of f below n; scan-below, of what passes a test
 --     added, added-total                  one after the other
 --     bracket, cond-three                 three at once
 use Prim.Native.Nat.{ℕ, zero, suc, _+_, _*_, _≤_}
@@ -44,13 +44,13 @@ module _ (f : ℕ → ℤ) (p : ℕ → Bool) where
       by false ih = rw (+ℤ-idr, add-zero) ih
 
 -- the sum of f below n
-abbrev pub isum : ℕ → (ℕ → ℤ) → ℤ
-isum zero f = pos 0
-isum (suc n) f = isum n f +ℤ f n
+abbrev pub sumBelow : ℕ → (ℕ → ℤ) → ℤ
+sumBelow zero f = pos 0
+sumBelow (suc n) f = sumBelow n f +ℤ f n
 
-pub isum-split : (m n : ℕ) (f : ℕ → ℤ) → isum (m + n) f ≡ isum m f +ℤ isum n (λ j. f (m + j))
-isum-split m zero f = ap (λ k. isum k f) (add-zero m) ∙ sym (+ℤ-idr _)
-isum-split m (suc n) f = ap (λ k. isum k f) (add-suc m n) ∙ ap (λ z. z +ℤ f (m + n)) (isum-split m n f) ∙ +ℤ-assoc (isum m f) (isum n (λ j. f (m + j))) (f (m + n))
+pub sumBelow-split : (m n : ℕ) (f : ℕ → ℤ) → sumBelow (m + n) f ≡ sumBelow m f +ℤ sumBelow n (λ j. f (m + j))
+sumBelow-split m zero f = ap (λ k. sumBelow k f) (add-zero m) ∙ sym (+ℤ-idr _)
+sumBelow-split m (suc n) f = ap (λ k. sumBelow k f) (add-suc m n) ∙ ap (λ z. z +ℤ f (m + n)) (sumBelow-split m n f) ∙ +ℤ-assoc (sumBelow m f) (sumBelow n (λ j. f (m + j))) (f (m + n))
 
 -- numbers added one after the other
 abbrev pub added : ℤ → List ℤ → ℤ
@@ -79,6 +79,6 @@ cond-three true p q r = refl
 cond-three false p q r = refl
 
 -- a sum over what passes a test, number by number
-pub scan-isum : (f : ℕ → ℤ) (p : ℕ → Bool) (n : ℕ) → scan f p n ≡ isum n (λ h. cond (p h) (f h) (pos 0))
-scan-isum f p zero = refl
-scan-isum f p (suc n) = scan-more f p n ∙ ap (λ z. z +ℤ cond (p n) (f n) (pos 0)) (scan-isum f p n)
+pub scan-below : (f : ℕ → ℤ) (p : ℕ → Bool) (n : ℕ) → scan f p n ≡ sumBelow n (λ h. cond (p h) (f h) (pos 0))
+scan-below f p zero = refl
+scan-below f p (suc n) = scan-more f p n ∙ ap (λ z. z +ℤ cond (p n) (f n) (pos 0)) (scan-below f p n)

@@ -9,8 +9,8 @@ use mathlib.Core.Logic.{_≢_}
 use mathlib.Core.List.{List, _++_}
 use native.Mathlib.Decide.{ℕ-discrete}
 use native.Mathlib.Omega.{arith}
-use lib.IntN.{ℤ, pos}
-use lib.ListN.{length, getD, take, replicate, length-replicate}
+use lib.IntN.{ℤ}
+use lib.ListN.{length, getD, take}
 use lib.Seq.{take-at}
 use borrow.Author.Tests.{eq-eqb, ne-eqb}
 use Rattle.laws.proofs.Counts.{count-at-most}
@@ -22,9 +22,8 @@ use Rattle.halfedges.specs.Counts.{levels}
 use Rattle.halfedges.proofs.Checks.{done-both}
 use Rattle.halfedges.proofs.Told.{zero-done}
 use Rattle.tables.specs.declared.check.Checked.{Checked}
-use Rattle.tables.specs.Tables.{Tables, tables, countsOf}
+use Rattle.tables.specs.Tables.{Tables, countsOf}
 use Rattle.tables.specs.Check.{returned, checked, tableChecks}
-use Rattle.levels.specs.Refining.{shortTables}
 use Rattle.points.specs.Operations.{vertices, cageChecks, checkCage}
 use Rattle.invariance.proofs.Levels.{accepted}
 use Rattle.cage.proofs.CageChecks.{checks-then}

@@ -2,7 +2,6 @@
 -- as they are (`near-stored`, `near-kept`, `put-stored`). Assumes nothing.
 use Prim.Native.Nat.{ℕ, zero, suc, _+_, _^_, _≤_, _<_}
 use mathlib.Core.Path.{_≡_, refl, sym, _∙_}
-use mathlib.Core.Bool.{Bool, true, false, cond}
 use mathlib.Core.List.{List}
 use native.Mathlib.Nat.{add-zero}
 use native.Mathlib.Omega.{arith}
@@ -51,11 +50,6 @@ only-take {l = l} {m = m} k a b o =
     let e : length (take k m) ≡ k = length-take-le k m (rw (o .long) b) in
     ext-getD (pos 0) (take k m) (take k l) (e ∙ sym (length-take-le k l b))
     (λ i c. getD-take k m i (pos 0) (rw e at c) ∙ o .other i (λ p q. omega (arith, rw e at c)) ∙ sym (getD-take k l i (pos 0) (rw e at c)))
-
--- a cell of one list or another
-pub value-cond : (b : Bool) (l m : List ℤ) (i : ℕ) → value (cond b l m) i ≡ cond b (value l i) (value m i)
-value-cond true l m i = refl
-value-cond false l m i = refl
 
 -- steps that keep to the same cells
 pub only-steps : (from to n : ℕ) (f : ℕ → List ℤ → List ℤ) (l : List ℤ) → ((i : ℕ) → i < n → (m : List ℤ) → length m ≡ length l → Only from to m (f i m)) → (i : ℕ) → i ≤ n → Only from to l (steps i f l)

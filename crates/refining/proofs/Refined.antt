@@ -30,8 +30,7 @@ use Rattle.tables.specs.Check.{tableChecks}
 use Rattle.levels.specs.Refining.{shortTables, filledTables, levelsEndToEnd}
 use Rattle.levels.proofs.Granted.{granted, refinable}
 use Rattle.points.specs.NextPoints.{levelPoints}
-use Rattle.points.specs.Operations.{vertices, outOfRange, cageChecks, refineVerdict, refineCage}
-use Rattle.points.specs.Operations.{InRange}
+use Rattle.points.specs.Operations.{vertices, outOfRange, cageChecks, refineVerdict, refineCage, InRange}
 use Rattle.cage.proofs.CageChecks.{checks-then}
 
 module _ (c : Tables) (points : List ℤ) (depth : ℕ) (e : first (cageChecks c points depth) ≡ DONE) where

@@ -11,8 +11,7 @@ use Rattle.splitting.specs.NextLevel.{level}
 use Rattle.tables.specs.Check.{rules}
 use Rattle.invariance.specs.Invariance.{Invariant}
 use Rattle.points.specs.NextPoints.{levelPoints}
-use Rattle.points.specs.Operations.{vertices, outOfRange}
-use Rattle.points.specs.Operations.{InRange}
+use Rattle.points.specs.Operations.{vertices, outOfRange, InRange}
 
 -- level d's points
 abbrev pub pointsOf : Tables → List ℤ → ℕ → List ℤ

@@ -1,10 +1,10 @@
--- Laws of rounding: `round-at-most`, `round-multiple`. Assumes nothing.
-use Prim.Native.Nat.{ℕ, zero, suc, _+_, _-_, _*_, _/_, _≤_, _<_}
-use mathlib.Core.Path.{_≡_, refl, ap}
+-- A small numerator rounds to a small number: `round-at-most`. Assumes nothing.
+use Prim.Native.Nat.{ℕ, suc, _+_, _-_, _*_, _/_, _≤_, _<_}
+use mathlib.Core.Path.{_≡_}
 use native.Mathlib.Decide.{decLe}
-use native.Mathlib.Nat.{mul-assoc, mul-comm, add-mul, one-mul, suc-mul, div-lt-iff-lt-mul, div-eq-of-lt, div-eq-of-lt-le}
+use native.Mathlib.Nat.{mul-assoc, mul-comm, add-mul, one-mul, div-lt-iff-lt-mul, div-eq-of-lt}
 use native.Mathlib.Omega.{arith}
-use lib.IntN.{ℤ, pos, negsuc, negℤ, natAbs, subℕ, _*ℤ_}
+use lib.IntN.{ℤ, pos, negsuc, natAbs, subℕ}
 use Rattle.laws.proofs.Integers.{subℕ-pos, subℕ-neg, neg-add}
 use Rattle.rounding.specs.Rounding.{floor, round}
 
@@ -30,17 +30,3 @@ module _ (m d : ℕ) (some : 0 < d) where
       by : Dec (2 * suc n ≤ d) → natAbs (floor (subℕ d (2 * suc n)) (2 * d)) ≤ m
       by (yes k) = rw (subℕ-pos d (2 * suc n) k, div-eq-of-lt {n = d - 2 * suc n} {m = 2 * d} (omega arith)) (omega arith)
       by (no k) = rw (subℕ-neg d (2 * suc n) (omega (arith, k))) (below-at-most (2 * suc n - suc d) (omega (arith, k, l)))
-
-twice-neg : (n : ℕ) → pos 2 *ℤ negℤ (pos n) ≡ negℤ (pos (2 * n))
-twice-neg zero = refl
-twice-neg (suc n) = refl
-
--- an exact multiple rounds to itself
-pub round-multiple : (m : ℤ) (d : ℕ) → 0 < d → round (m *ℤ pos d) d ≡ m
-unfolding round
-round-multiple (pos m) d some =
-    ap pos (div-eq-of-lt-le (2 * d) (omega (arith, doubled m d)) (omega (arith, doubled m d, add-mul m 1 (2 * d), one-mul (2 * d))))
-round-multiple (negsuc m) d some =
-    let s = suc-mul m d in
-    rw (twice-neg (suc m * d), neg-add (2 * (suc m * d)) d, subℕ-neg d (2 * (suc m * d)) (omega arith))
-    (ap negsuc (div-eq-of-lt-le (2 * d) (omega (arith, doubled m d)) (omega (arith, doubled m d, add-mul m 1 (2 * d), one-mul (2 * d)))))

@@ -13,7 +13,7 @@ use Rattle.laws.specs.Internal.Steps.{steps}
 use Rattle.laws.proofs.Integers.{natAbs-add, add-swap}
 use Rattle.laws.proofs.Select.{count-grows}
 use Rattle.laws.proofs.Sums.{sum-split}
-use Rattle.laws.proofs.Totals.{scan-at-most, isum, isum-split, added-total, scan-isum}
+use Rattle.laws.proofs.Totals.{scan-at-most, sumBelow, sumBelow-split, added-total, scan-below}
 use Rattle.halfedges.specs.Cage.{cell}
 use Rattle.tables.specs.Tables.{leaves}
 use Rattle.points.specs.NextPoints.{coordinate, far}
@@ -54,7 +54,7 @@ module _ (vert : List ℕ) (n : ℕ) (cornered : Cornered vert n) (before : ℕ)
 
       -- the sums after i triangles of the level before: over their corner triangles, and over their middle ones
       abbrev so-far : ℕ → ℤ
-      so-far i = isum (9 * i) bring +ℤ isum (3 * i) (λ j. bring (3 * before + j))
+      so-far i = sumBelow (9 * i) bring +ℤ sumBelow (3 * i) (λ j. bring (3 * before + j))
 
       fours-step : (i : ℕ) → i ≤ before / 3 → value (steps i (fourSpokes vert n) l) cell-of ≡ value l cell-of +ℤ so-far i
       unfolding steps fourSpokes
@@ -64,16 +64,16 @@ module _ (vert : List ℕ) (n : ℕ) (cornered : Cornered vert n) (before : ℕ)
           let only = fours-only l i (omega arith) in
           let nine-more : 9 * suc i ≡ 9 * i + 9 = omega arith in
           let three-more : 3 * suc i ≡ 3 * i + 3 = omega arith in
-          let S = isum (9 * i) bring in
-          let M = isum (3 * i) (λ j. bring (3 * before + j)) in
-          let N = isum 9 (λ j. bring (9 * i + j)) in
-          let K = isum 3 (λ j. bring (3 * before + (3 * i + j))) in
+          let S = sumBelow (9 * i) bring in
+          let M = sumBelow (3 * i) (λ j. bring (3 * before + j)) in
+          let N = sumBelow 9 (λ j. bring (9 * i + j)) in
+          let K = sumBelow 3 (λ j. bring (3 * before + (3 * i + j))) in
           addFour-sum n m (fourOf vert i) (inside i b) (rw (only .long) room) points (holds-on (le-refl _) holds only) x k lk
           ∙ added-total (value m cell-of) (twelve-spokes vert before four points x k i b)
           ∙ ap₂ _+ℤ_ (fours-step i (omega arith)) (sym (group vert before four points x k i b))
           ∙ +ℤ-assoc (value l cell-of) (S +ℤ M) (N +ℤ K)
           ∙ ap (λ z. value l cell-of +ℤ z) (add-swap S M N K)
-          ∙ ap (λ z. value l cell-of +ℤ z) (sym (ap₂ _+ℤ_ (ap (λ j. isum j bring) nine-more ∙ isum-split (9 * i) 9 bring) (ap (λ j. isum j (λ j. bring (3 * before + j))) three-more ∙ isum-split (3 * i) 3 (λ j. bring (3 * before + j)))))
+          ∙ ap (λ z. value l cell-of +ℤ z) (sym (ap₂ _+ℤ_ (ap (λ j. sumBelow j bring) nine-more ∙ sumBelow-split (9 * i) 9 bring) (ap (λ j. sumBelow j (λ j. bring (3 * before + j))) three-more ∙ sumBelow-split (3 * i) 3 (λ j. bring (3 * before + j)))))
 
       pub fours-sum : value (steps (before / 3) (fourSpokes vert n) l) cell-of ≡ value l cell-of +ℤ spokeSum vert points k x (length vert)
       fours-sum =
@@ -82,25 +82,25 @@ module _ (vert : List ℕ) (n : ℕ) (cornered : Cornered vert n) (before : ℕ)
           let all : 3 * before + before ≡ length vert = omega (arith, four .long) in
           fours-step (before / 3) (le-refl _)
           ∙ ap (λ z. value l cell-of +ℤ z)
-          (ap₂ (λ i j. isum i bring +ℤ isum j (λ j. bring (3 * before + j))) nine-all three-all
-          ∙ sym (isum-split (3 * before) before bring)
-          ∙ ap (λ j. isum j bring) all
-          ∙ sym (scan-isum (λ h. coordinate points k (far vert h)) (leaves vert x) (length vert)))
+          (ap₂ (λ i j. sumBelow i bring +ℤ sumBelow j (λ j. bring (3 * before + j))) nine-all three-all
+          ∙ sym (sumBelow-split (3 * before) before bring)
+          ∙ ap (λ j. sumBelow j bring) all
+          ∙ sym (scan-below (λ h. coordinate points k (far vert h)) (leaves vert x) (length vert)))
 
       so-far-small : InRange points → (i : ℕ) → i ≤ before / 3 → natAbs (so-far i) ≤ most-coordinate * most-corners
       so-far-small range i b =
           let f : ℕ → ℤ = λ h. coordinate points k (far vert h) in
           let p = leaves vert x in
           let small : (u : ℕ) → natAbs (coordinate points k u) ≤ most-coordinate = λ u. any-in-range points range (3 * u + k) in
-          let corners = rw (scan-isum f p (9 * i)) at (scan-at-most f p most-coordinate (λ h. small (far vert h)) (9 * i)) in
-          let middles = rw (scan-isum (λ j. f (3 * before + j)) (λ j. p (3 * before + j)) (3 * i)) at (scan-at-most (λ j. f (3 * before + j)) (λ j. p (3 * before + j)) most-coordinate (λ j. small (far vert (3 * before + j))) (3 * i)) in
+          let corners = rw (scan-below f p (9 * i)) at (scan-at-most f p most-coordinate (λ h. small (far vert h)) (9 * i)) in
+          let middles = rw (scan-below (λ j. f (3 * before + j)) (λ j. p (3 * before + j)) (3 * i)) at (scan-at-most (λ j. f (3 * before + j)) (λ j. p (3 * before + j)) most-coordinate (λ j. small (far vert (3 * before + j))) (3 * i)) in
           let all : 3 * before + before ≡ length vert = omega (arith, four .long) in
           let parts : count (length vert) (leaves vert x) ≡ count (3 * before) (leaves vert x) + count before (λ j. leaves vert x (3 * before + j)) = sym (ap (λ m. count m (leaves vert x)) all) ∙ sum-split (3 * before) before (λ h. cond (leaves vert x h) 1 0) in
           omega (
             arith,
             corners,
             middles,
-            natAbs-add (isum (9 * i) bring) (isum (3 * i) (λ j. bring (3 * before + j))),
+            natAbs-add (sumBelow (9 * i) bring) (sumBelow (3 * i) (λ j. bring (3 * before + j))),
             parts,
             count-grows p (9 * i) (3 * before) (omega (arith, four .whole)),
             count-grows (λ j. p (3 * before + j)) (3 * i) before (omega (arith, four .whole)),

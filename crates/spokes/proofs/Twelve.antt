@@ -7,7 +7,7 @@ use mathlib.Core.List.{List, [], _∷_}
 use native.Mathlib.Omega.{arith}
 use lib.IntN.{ℤ, pos, _+ℤ_, +ℤ-idl}
 use Rattle.laws.specs.Totals.{total}
-use Rattle.laws.proofs.Totals.{total-append, isum, added-total, take-out}
+use Rattle.laws.proofs.Totals.{total-append, sumBelow, added-total, take-out}
 use Rattle.halfedges.specs.Cage.{PREV, cell}
 use Rattle.halfedges.proofs.Triangle.{next-0, next-1, next-2, prev-0, prev-1, prev-2}
 use Rattle.tables.specs.Tables.{leaves}
@@ -93,7 +93,7 @@ module _ (vert : List ℕ) (before : ℕ) (four : Fourfold before vert) (points 
     abbrev c : ℕ
     c = fourOf vert g .c
 
-    nine : isum 9 (λ j. brought (9 * g + j)) ≡ total (to u a ∷ to a c ∷ to c u ∷ to v b ∷ to b a ∷ to a v ∷ to w c ∷ to c b ∷ to b w ∷ [])
+    nine : sumBelow 9 (λ j. brought (9 * g + j)) ≡ total (to u a ∷ to a c ∷ to c u ∷ to v b ∷ to b a ∷ to a v ∷ to w c ∷ to c b ∷ to b w ∷ [])
     nine =
         added-total (pos 0) (brought (9 * g + 0) ∷ brought (9 * g + 1) ∷ brought (9 * g + 2) ∷ brought (9 * g + 3) ∷ brought (9 * g + 4) ∷ brought (9 * g + 5) ∷ brought (9 * g + 6) ∷ brought (9 * g + 7) ∷ brought (9 * g + 8) ∷ [])
         ∙ +ℤ-idl _
@@ -111,7 +111,7 @@ module _ (vert : List ℕ) (before : ℕ) (four : Fourfold before vert) (points 
         same : total (brought (9 * g + 0) ∷ brought (9 * g + 1) ∷ brought (9 * g + 2) ∷ brought (9 * g + 3) ∷ brought (9 * g + 4) ∷ brought (9 * g + 5) ∷ brought (9 * g + 6) ∷ brought (9 * g + 7) ∷ brought (9 * g + 8) ∷ []) ≡ total (to u a ∷ to a c ∷ to c u ∷ to v b ∷ to b a ∷ to a v ∷ to w c ∷ to c b ∷ to b w ∷ [])
         same = cc (one .0, one .1, one .2, two .0, two .1, two .2, last .0, last .1, last .2)
 
-    middle : isum 3 (λ j. brought (3 * before + (3 * g + j))) ≡ total (to c a ∷ to a b ∷ to b c ∷ [])
+    middle : sumBelow 3 (λ j. brought (3 * before + (3 * g + j))) ≡ total (to c a ∷ to a b ∷ to b c ∷ [])
     middle =
         added-total (pos 0) (brought (3 * before + (3 * g + 0)) ∷ brought (3 * before + (3 * g + 1)) ∷ brought (3 * before + (3 * g + 2)) ∷ [])
         ∙ +ℤ-idl _
@@ -133,7 +133,7 @@ module _ (vert : List ℕ) (before : ℕ) (four : Fourfold before vert) (points 
     abbrev pub twelve-spokes : List ℤ
     twelve-spokes = to u a ∷ to c u ∷ to c a ∷ to c b ∷ to v b ∷ to a v ∷ to a b ∷ to a c ∷ to w c ∷ to b w ∷ to b c ∷ to b a ∷ []
 
-    pub group : isum 9 (λ j. brought (9 * g + j)) +ℤ isum 3 (λ j. brought (3 * before + (3 * g + j))) ≡ total twelve-spokes
+    pub group : sumBelow 9 (λ j. brought (9 * g + j)) +ℤ sumBelow 3 (λ j. brought (3 * before + (3 * g + j))) ≡ total twelve-spokes
     group =
         ap₂ _+ℤ_ nine middle
         ∙ sym (total-append (to u a ∷ to a c ∷ to c u ∷ to v b ∷ to b a ∷ to a v ∷ to w c ∷ to c b ∷ to b w ∷ []) (to c a ∷ to a b ∷ to b c ∷ []))

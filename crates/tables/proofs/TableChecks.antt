@@ -9,8 +9,8 @@ use lib.Dec.{eqb}
 use lib.ListN.{length, getD, replicate}
 use borrow.Author.Tests.{eq-eqb, ne-eqb}
 use Rattle.halfedges.specs.declared.answer.Answer.{Answer}
-use Rattle.halfedges.specs.Refusals.{Verdict, SHAPE, LIMIT, told, given, first, said}
-use Rattle.halfedges.proofs.Told.{told-alike, zero-done}
+use Rattle.halfedges.specs.Refusals.{SHAPE, LIMIT, told, given, first, said}
+use Rattle.halfedges.proofs.Told.{told-alike}
 use Rattle.halfedges.specs.Counts.{aboveLimit}
 use Rattle.tables.specs.declared.check.Checked.{Checked}
 use Rattle.tables.specs.Tables.{Tables}

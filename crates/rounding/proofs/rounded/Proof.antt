@@ -8,7 +8,7 @@ use lib.Signed.{_<ℤ_}
 use mir.Syntax.{w32, w64}
 use mir.Val.{SFits}
 use mir.Facts.{toZ-ofZ}
-use Rattle.laws.proofs.Integers.{natAbs-add, natAbs-mul, pos-of, small-fits, back-of}
+use Rattle.laws.proofs.Integers.{natAbs-add, natAbs-mul, pos-of, small-fits, scaled-fits, back-of}
 use Rattle.rounding.specs.Rounding.{floor, round}
 use Rattle.rounding.proofs.Nearest.{round-at-most}
 use Rattle.rounding.proofs.rounded.Statement.{statement}
@@ -21,14 +21,11 @@ module _ (s : tie.Start) where
   abbrev d : ℤ
   d = s .args .denominator
 
-  double-fits : SFits w64 (pos 2 *ℤ n)
-  double-fits = small-fits w64 _ (omega (arith, natAbs-mul (pos 2) n))
-
-  top-fits : SFits w64 (pos 2 *ℤ n +ℤ d)
-  top-fits = small-fits w64 _ (omega (arith, natAbs-mul (pos 2) n, natAbs-add (pos 2 *ℤ n) d))
+  top-fits : SFits w64 (pos 2 *ℤ n) × SFits w64 (pos 2 *ℤ n +ℤ d)
+  top-fits = scaled-fits w64 2 n d (omega arith)
 
   bottom-fits : SFits w64 (pos 2 *ℤ d)
-  bottom-fits = small-fits w64 _ (omega (arith, natAbs-mul (pos 2) d))
+  bottom-fits = scaled-fits w64 2 d n (omega arith) .0
 
   is-floor : floor (pos 2 *ℤ n +ℤ d) (natAbs (pos 2 *ℤ d)) ≡ round n (natAbs d)
   unfolding round
@@ -45,10 +42,10 @@ twice d l =
     rw (p .0) (record { lt = lt→ltb 0 (2 * natAbs d) k })
 
 mul-top : tie.Need-mul-top
-mul-top s = rw (toZ-ofZ (s .fits .numerator)) (double-fits s)
+mul-top s = rw (toZ-ofZ (s .fits .numerator)) (top-fits s .0)
 
 add-top : tie.Need-add-top
-add-top s = rw (toZ-ofZ (s .fits .numerator), toZ-ofZ (s .fits .denominator), toZ-ofZ (double-fits s)) (top-fits s)
+add-top s = rw (toZ-ofZ (s .fits .numerator), toZ-ofZ (s .fits .denominator), toZ-ofZ (top-fits s .0)) (top-fits s .1)
 
 mul-bottom : tie.Need-mul-bottom
 mul-bottom s = rw (toZ-ofZ (s .fits .denominator)) (bottom-fits s)
@@ -58,13 +55,13 @@ floor-division-requires s κs =
     let top = natAbs-add (pos 2 *ℤ n s) (d s) in
     let double = natAbs-mul (pos 2) (n s) in
     let bottom = natAbs-mul (pos 2) (d s) in
-    rw (toZ-ofZ (s .fits .numerator), toZ-ofZ (s .fits .denominator), toZ-ofZ (double-fits s), toZ-ofZ (top-fits s), toZ-ofZ (bottom-fits s))
+    rw (toZ-ofZ (s .fits .numerator), toZ-ofZ (s .fits .denominator), toZ-ofZ (top-fits s .0), toZ-ofZ (top-fits s .1), toZ-ofZ (bottom-fits s))
     (twice _ (s .pre .0), omega (arith, s .pre .1, bottom), omega (arith, s .pre .2, top, double, bottom, pos-of (d s) (s .pre .0) .1))
 
 result : (c : tie.After-floor-division) → c .floor-division .result ≡ round (c .before .args .numerator) (natAbs (c .before .args .denominator))
 result c =
     let s = c .before in
-    (rw (toZ-ofZ (s .fits .numerator), toZ-ofZ (s .fits .denominator), toZ-ofZ (double-fits s), toZ-ofZ (top-fits s), toZ-ofZ (bottom-fits s)) at (c .floor-division .ensures))
+    (rw (toZ-ofZ (s .fits .numerator), toZ-ofZ (s .fits .denominator), toZ-ofZ (top-fits s .0), toZ-ofZ (top-fits s .1), toZ-ofZ (bottom-fits s)) at (c .floor-division .ensures))
     ∙ is-floor s
 
 cast-result : tie.Need-cast-result

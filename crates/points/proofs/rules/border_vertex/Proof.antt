@@ -8,7 +8,7 @@ use lib.Signed.{leZ, ltZ-yes}
 use mir.Syntax.{w32, w64}
 use mir.Val.{SFits}
 use mir.Facts.{toZ-ofZ, sfits-widen}
-use Rattle.laws.proofs.Integers.{natAbs-add, natAbs-mul, small-fits, back-of}
+use Rattle.laws.proofs.Integers.{natAbs-add, natAbs-mul, small-fits, scaled-fits, back-of}
 use Rattle.points.specs.Operations.{most-coordinate}
 use Rattle.points.specs.Internal.Parts.{mark, met}
 use Rattle.points.proofs.Numerators.{unmarked-at-most}
@@ -22,11 +22,8 @@ module _ (s : tie.Start) where
   abbrev a : ℤ
   a = s .args .neighbour
 
-  six-fits : SFits w32 (pos 6 *ℤ x)
-  six-fits = small-fits w32 _ (omega (arith, natAbs-mul (pos 6) x))
-
-  sum-fits : SFits w32 (pos 6 *ℤ x +ℤ a)
-  sum-fits = small-fits w32 _ (omega (arith, natAbs-mul (pos 6) x, natAbs-add (pos 6 *ℤ x) a))
+  both-fit : SFits w32 (pos 6 *ℤ x) × SFits w32 (pos 6 *ℤ x +ℤ a)
+  both-fit = scaled-fits w32 6 x a (omega arith)
 
   marked-fits : SFits w32 (pos 6 *ℤ x +ℤ a +ℤ pos mark)
   marked-fits = small-fits w32 _ (omega (arith, natAbs-mul (pos 6) x, natAbs-add (pos 6 *ℤ x) a, natAbs-add (pos 6 *ℤ x +ℤ a) (pos mark)))
@@ -54,13 +51,13 @@ module _ (c : tie.Else1) where
   wide = sfits-widen tt fits
 
 mul-result : tie.Need-mul-result
-mul-result c = let s = c .before in simp (toZ-ofZ (s .fits .vertex)) (six-fits s)
+mul-result c = let s = c .before in simp (toZ-ofZ (s .fits .vertex)) (both-fit s .0)
 
 add-result : tie.Need-add-result
-add-result c = let s = c .before in simp (toZ-ofZ (s .fits .vertex), toZ-ofZ (s .fits .neighbour), toZ-ofZ (six-fits s)) (sum-fits s)
+add-result c = let s = c .before in simp (toZ-ofZ (s .fits .vertex), toZ-ofZ (s .fits .neighbour), toZ-ofZ (both-fit s .0)) (both-fit s .1)
 
 add-result-2 : tie.Need-add-result-2
-add-result-2 c = let s = c .before in simp (toZ-ofZ (s .fits .vertex), toZ-ofZ (s .fits .neighbour), toZ-ofZ (six-fits s), toZ-ofZ (sum-fits s)) (marked-fits s)
+add-result-2 c = let s = c .before in simp (toZ-ofZ (s .fits .vertex), toZ-ofZ (s .fits .neighbour), toZ-ofZ (both-fit s .0), toZ-ofZ (both-fit s .1)) (marked-fits s)
 
 returns : tie.Need-returns
 unfolding met
@@ -68,7 +65,7 @@ returns c =
     let s = c .before in
     let first : leZ (s .args .now) (pos most-coordinate) ≡ true = simp (toZ-ofZ (s .fits .now)) at (c .if1 .taken) in
     rw first
-    (simp (toZ-ofZ (s .fits .vertex), toZ-ofZ (s .fits .neighbour), toZ-ofZ (six-fits s), toZ-ofZ (sum-fits s), toZ-ofZ (marked-fits s)))
+    (simp (toZ-ofZ (s .fits .vertex), toZ-ofZ (s .fits .neighbour), toZ-ofZ (both-fit s .0), toZ-ofZ (both-fit s .1), toZ-ofZ (marked-fits s)))
 
 sub-numerator : tie.Need-sub-numerator
 sub-numerator c = simp (toZ-ofZ (c .before .fits .now)) (unmarked-fits c)

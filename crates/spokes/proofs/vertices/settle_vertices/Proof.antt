@@ -5,10 +5,9 @@ use native.Mathlib.Omega.{arith}
 use lib.ListN.{length}
 use borrow.Author.Needs.{needs}
 use Rattle.laws.specs.Internal.Steps.{steps}
-use Rattle.laws.proofs.Steps.{steps-none, steps-on, steps-end}
+use Rattle.laws.proofs.Steps.{steps-none, steps-on, steps-end, steps-add, steps-on-from}
 use Rattle.spokes.specs.Internal.Vertices.{settle}
 use Rattle.spokes.proofs.Settled.{settles-on, own-known, added-known, settle-is}
-use Rattle.laws.proofs.Steps.{steps-add, steps-on-from}
 use Rattle.spokes.proofs.vertices.settle_vertices.Statement.{statement}
 use Rattle.spokes.proofs.vertices.settle_vertices.Tie as tie
 
