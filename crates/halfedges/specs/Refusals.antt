@@ -1,10 +1,10 @@
--- Document 01, "Why a cage is sent back": the numbers, and how checks follow each other.
+-- Document 01, "Why a cage is sent back", with the numbers that document 02 adds: the numbers, and how checks follow each other.
 use Prim.Native.Nat.{ℕ}
 use mathlib.Core.Bool.{Bool, cond}
 use mathlib.Core.List.{List, [], _∷_}
 use lib.Dec.{eqb, ltb}
 use Rattle.halfedges.specs.declared.answer.Answer.{Answer}
-use Rattle.halfedges.specs.declared.answer.Answer.the-variants.{Done, Shape, Limit, Twin, Vertex, Unused, Edge, Fan, Point, Room, Short, Field, Extra}
+use Rattle.halfedges.specs.declared.answer.Answer.the-variants.{Done, Shape, Limit, Twin, Vertex, Unused, Edge, Fan, Point, Room, Short, Field, Extra, Doubled}
 use Rattle.laws.specs.Below.{any, lowest}
 use Rattle.laws.specs.Parts.{inFront}
 
@@ -56,6 +56,9 @@ FIELD = numbered 11
 abbrev pub EXTRA : ℕ → Verdict
 EXTRA = numbered 12
 
+abbrev pub DOUBLED : ℕ → Verdict
+DOUBLED = numbered 13
+
 -- what each case of the code's answer is called here
 abbrev pub told : Answer → Verdict
 told Done = DONE
@@ -71,6 +74,7 @@ told (Room t) = ROOM t
 told (Short o) = SHORT o
 told (Field o) = FIELD o
 told (Extra o) = EXTRA o
+told (Doubled h) = DOUBLED h
 
 -- "Given exactly when"
 unfoldable pub given : Bool → Verdict → Verdict

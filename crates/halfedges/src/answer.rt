@@ -17,6 +17,7 @@ pub enum Answer {
     Short(usize),
     Field(usize),
     Extra(usize),
+    Doubled(usize),
 }
 
 impl Answer {
@@ -37,6 +38,7 @@ impl Answer {
             Answer::Short(_) => 10,
             Answer::Field(_) => 11,
             Answer::Extra(_) => 12,
+            Answer::Doubled(_) => 13,
         }
     }
 
@@ -57,6 +59,7 @@ impl Answer {
             Answer::Short(offset) => offset,
             Answer::Field(offset) => offset,
             Answer::Extra(offset) => offset,
+            Answer::Doubled(halfedge) => halfedge,
         }
     }
 }
