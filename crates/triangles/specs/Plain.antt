@@ -1,6 +1,7 @@
 -- Document 02, §1 "Cages as plain triangles": TWIN and EDGE from VERT alone.
-use Prim.Native.Nat.{ℕ}
-use mathlib.Core.Bool.{Bool, cond, not, _&&_, _||_}
+use Prim.Native.Nat.{ℕ, _<_}
+use mathlib.Core.Path.{_≡_}
+use mathlib.Core.Bool.{Bool, false, cond, not, _&&_, _||_}
 use mathlib.Core.List.{List}
 use lib.Dec.{eqb, ltb}
 use lib.ListN.{length}
@@ -14,6 +15,10 @@ runs vert from to h = eqb (cell vert h) from && eqb (cell vert (NEXT h)) to
 -- "the same directed pair of vertices occurs on two halfedges", of which h is the lower
 unfoldable pub doubled : List ℕ → ℕ → Bool
 doubled vert h = any (length vert) (λ g. ltb h g && runs vert (cell vert h) (cell vert (NEXT h)) g)
+
+-- it occurs on two nowhere: the directed pairs are all different
+pub record Undoubled (vert : List ℕ) : Type 0 where
+  pub each : (h : ℕ) → h < length vert → doubled vert h ≡ false
 
 -- "Two different halfedges are twins exactly when they run between the same two vertices the opposite way"
 unfoldable pub twins : List ℕ → ℕ → ℕ → Bool

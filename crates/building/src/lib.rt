@@ -1,0 +1,1 @@
+// Cages that come as plain triangles.

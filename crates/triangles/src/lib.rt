@@ -1,0 +1,1 @@
+// TWIN and EDGE from VERT alone.
