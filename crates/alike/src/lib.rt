@@ -1,1 +1,106 @@
-// Which items are alike.
+// Items in groups, each with a label, and for each item the first that is like it: in the same group, with the same label. The items
+// of a group are chained, and along a chain a table has, for each label, the first item that was met. Each item is met three times,
+// whatever the numbers are. An item k is chained as k + 1, and 0 ends a chain.
+ghost use Prim.Native.Nat.{ℕ, _≤_, _<_};
+ghost use mathlib.Core.Path.{_≡_};
+ghost use lib.ListN.{length, getD};
+ghost use Rattle.alike.specs.Internal.Alike.{Firsts, Keyed, Ready, Chain, Marked, Told};
+
+// Every group and every label is below this number.
+pub const NUMBERS: usize = 4096;
+
+// The most items.
+pub const MOST_ITEMS: usize = 6144;
+
+// For each item the first that is like it.
+pub fn find_firsts(groups: &[u32], labels: &[u32], first: &mut [u32])
+    requires { ⌜ Keyed (now groups) (now labels) × (length (now groups) ≤ length (now first)) ⌝ }
+    ensures { λ _. ⌜ Firsts (now (groups .entry)) (now (labels .entry)) (now (first .exit)) ⌝ }
+{
+    let mut heads = [0u32; NUMBERS];
+    let mut before = [0u32; MOST_ITEMS];
+    chain(groups, labels, &mut heads, &mut before);
+    let mut marks = [0u32; NUMBERS];
+    tell_groups(groups, labels, &heads, &before, &mut marks, first);
+}
+
+// Each item goes in front of its group's chain.
+fn chain(groups: &[u32], labels: &[u32], heads: &mut [u32], before: &mut [u32])
+    requires { ⌜ Keyed (now groups) (now labels) × (length (now heads) ≡ 4096) × (length (now groups) ≤ length (now before)) ⌝ }
+    requires { ⌜ ((g : ℕ) → g < length (now heads) → getD (now heads) g 0 ≡ 0) ⌝ }
+    ensures { λ _. ⌜ Ready (now (groups .entry)) (now (labels .entry)) (now (heads .exit)) (now (before .exit)) ⌝ }
+{
+    let mut item = 0;
+    while item < groups.len() {
+        let group = groups[item] as usize;
+        before[item] = heads[group];
+        heads[group] = (item + 1) as u32;
+        item += 1;
+    }
+}
+
+// One group after the other.
+fn tell_groups(
+    groups: &[u32],
+    labels: &[u32],
+    heads: &[u32],
+    before: &[u32],
+    marks: &mut [u32],
+    first: &mut [u32],
+)
+    requires { ⌜ Ready (now groups) (now labels) (now heads) (now before) ⌝ }
+    requires { ⌜ (4096 ≤ length (now marks)) × (length (now groups) ≤ length (now first)) ⌝ }
+    ensures { λ _. ⌜ Firsts (now (groups .entry)) (now (labels .entry)) (now (first .exit)) ⌝ }
+{
+    let mut group = 0;
+    while group < heads.len() {
+        let head = heads[group] as usize;
+        mark(groups, labels, before, group, head, marks);
+        tell(groups, labels, before, group, head, marks, first);
+        group += 1;
+    }
+}
+
+// A chain falls, so of each label the item that is marked last is the group's first.
+fn mark(
+    groups: &[u32],
+    labels: &[u32],
+    before: &[u32],
+    group: usize,
+    head: usize,
+    marks: &mut [u32],
+)
+    requires { ⌜ Chain (now groups) (now labels) (now before) group head × (4096 ≤ length (now marks)) ⌝ }
+    ensures { λ _. ⌜ Marked (now (groups .entry)) (now (labels .entry)) group (now (marks .exit)) ⌝ }
+{
+    let mut end = head;
+    while end != 0 {
+        let item = end - 1;
+        let label = labels[item] as usize;
+        marks[label] = item as u32;
+        end = before[item] as usize;
+    }
+}
+
+// Each item of a group takes what is marked for its label.
+fn tell(
+    groups: &[u32],
+    labels: &[u32],
+    before: &[u32],
+    group: usize,
+    head: usize,
+    marks: &[u32],
+    first: &mut [u32],
+)
+    requires { ⌜ Chain (now groups) (now labels) (now before) group head × Marked (now groups) (now labels) group (now marks) ⌝ }
+    requires { ⌜ (4096 ≤ length (now marks)) × (length (now groups) ≤ length (now first)) ⌝ }
+    ensures { λ _. ⌜ Told (now (groups .entry)) (now (labels .entry)) group (now (first .entry)) (now (first .exit)) ⌝ }
+{
+    let mut end = head;
+    while end != 0 {
+        let item = end - 1;
+        let label = labels[item] as usize;
+        first[item] = marks[label];
+        end = before[item] as usize;
+    }
+}
