@@ -1,1 +1,2 @@
 pub mod Opposite
+pub mod Numbering
