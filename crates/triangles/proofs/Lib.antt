@@ -1,2 +1,3 @@
 pub mod Opposite
 pub mod Numbering
+pub mod RuleSix
