@@ -1,3 +1,4 @@
 -- What only contracts between functions cite.
 pub mod Reach
 pub mod Alike
+pub mod Narrowed

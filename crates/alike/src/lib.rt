@@ -6,6 +6,8 @@ ghost use mathlib.Core.Path.{_≡_};
 ghost use lib.ListN.{length, getD};
 ghost use Rattle.alike.specs.Internal.Alike.{Firsts, Keyed, Ready, Chain, Marked, Told};
 
+pub mod numbers;
+
 // Every group and every label is below this number.
 pub const NUMBERS: usize = 4096;
 

@@ -1,1 +1,4 @@
-// TWIN and EDGE from VERT alone.
+// The tables of a cage that comes as plain triangles: TWIN and EDGE from VERT alone.
+pub mod edges;
+pub mod pairs;
+pub mod twins;

@@ -1,0 +1,20 @@
+-- Small numbers in place of any.
+use Prim.Native.Nat.{ℕ, _/_, _%_, _<_}
+use mathlib.Core.Path.{_≡_}
+use mathlib.Core.List.{List}
+use lib.Dec.{eqb}
+use lib.ListN.{length, getD}
+
+-- numbers that can be groups and labels
+pub record Small (numbers : List ℕ) : Type 0 where
+  pub each : (k : ℕ) → k < length numbers → getD numbers k 0 < 4096
+
+-- of each number the last digit by 4,096, and what stands before it
+pub record Halved (numbers upper low : List ℕ) : Type 0 where
+  pub before : (k : ℕ) → k < length numbers → getD upper k 0 ≡ getD numbers k 0 / 4096
+  pub last : (k : ℕ) → k < length numbers → getD low k 0 ≡ getD numbers k 0 % 4096
+
+-- small numbers that are the same exactly where the numbers are
+pub record Narrowed (numbers small : List ℕ) : Type 0 where
+  pub below : (k : ℕ) → k < length numbers → getD small k 0 < 4096
+  pub same : (j k : ℕ) → j < length numbers → k < length numbers → eqb (getD small j 0) (getD small k 0) ≡ eqb (getD numbers j 0) (getD numbers k 0)

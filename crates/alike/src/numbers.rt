@@ -1,0 +1,61 @@
+// Small numbers in place of any: alike exactly where those are, so that items can be grouped by them.
+ghost use Prim.Native.Nat.{ℕ, _/_, _%_, _≤_, _<_};
+ghost use mathlib.Core.Path.{_≡_};
+ghost use mathlib.Core.Bool.{true};
+ghost use lib.ListN.{length, getD};
+ghost use Rattle.alike.specs.Internal.Narrowed.{Small, Halved, Narrowed};
+use crate::NUMBERS;
+use crate::find_firsts;
+
+// Whether numbers can be groups and labels as they are.
+pub fn are_small(numbers: &[u32]) -> bool
+    ensures { λ r. ⌜ (r ≡ true → Small (now (numbers .entry))) ⌝ }
+{
+    let mut place = 0;
+    while place < numbers.len() {
+        if NUMBERS <= numbers[place] as usize {
+            return false;
+        }
+        place += 1;
+    }
+    true
+}
+
+// Of each number the first place where it stands: a number below NUMBERS. It is found by three digits, two at a time.
+pub fn narrow(numbers: &[u32], small: &mut [u32])
+    requires { ⌜ (length (now numbers) ≤ 4096) × (length (now numbers) ≤ length (now small)) ⌝ }
+    ensures { λ _. ⌜ Narrowed (now (numbers .entry)) (now (small .exit)) ⌝ }
+{
+    let mut upper = [0u32; NUMBERS];
+    let mut low = [0u32; NUMBERS];
+    split(numbers, &mut upper, &mut low);
+    let mut first = [0u32; NUMBERS];
+    narrow_upper(&upper[..numbers.len()], &mut first);
+    find_firsts(&first[..numbers.len()], &low[..numbers.len()], small);
+}
+
+// The same of numbers of two digits.
+fn narrow_upper(numbers: &[u32], small: &mut [u32])
+    requires { ⌜ (length (now numbers) ≤ 4096) × (length (now numbers) ≤ length (now small)) ⌝ }
+    requires { ⌜ ((k : ℕ) → k < length (now numbers) → getD (now numbers) k 0 / 4096 < 4096) ⌝ }
+    ensures { λ _. ⌜ Narrowed (now (numbers .entry)) (now (small .exit)) ⌝ }
+{
+    let mut high = [0u32; NUMBERS];
+    let mut low = [0u32; NUMBERS];
+    split(numbers, &mut high, &mut low);
+    find_firsts(&high[..numbers.len()], &low[..numbers.len()], small);
+}
+
+// The last digit of each number, and what stands before it.
+fn split(numbers: &[u32], upper: &mut [u32], low: &mut [u32])
+    requires { ⌜ (length (now numbers) ≤ length (now upper)) × (length (now numbers) ≤ length (now low)) ⌝ }
+    ensures { λ _. ⌜ Halved (now (numbers .entry)) (now (upper .exit)) (now (low .exit)) ⌝ }
+{
+    let mut place = 0;
+    while place < numbers.len() {
+        let number = numbers[place];
+        upper[place] = number / 4096;
+        low[place] = number % 4096;
+        place += 1;
+    }
+}
