@@ -1,3 +1,4 @@
 pub mod Reached
 pub mod Chains
 pub mod Walks
+pub mod Digits

@@ -47,13 +47,13 @@ module _ (groups labels : List ℕ) where
       by k l b (yes e) = t .same k l e
       by k l b (no n) = t .kept k n ∙ w .each k l (omega (arith, n))
 
-  like-group : (k j : ℕ) → alike groups labels k j ≡ true → getD groups j 0 ≡ getD groups k 0
+  pub like-group : (k j : ℕ) → alike groups labels k j ≡ true → getD groups j 0 ≡ getD groups k 0
   like-group k j e = eqb-true _ _ (and-true (inGroup groups (getD groups k 0) j) _ e .0)
 
-  like-label : (k j : ℕ) → alike groups labels k j ≡ true → getD labels j 0 ≡ getD labels k 0
+  pub like-label : (k j : ℕ) → alike groups labels k j ≡ true → getD labels j 0 ≡ getD labels k 0
   like-label k j e = eqb-true _ _ (and-true (inGroup groups (getD groups k 0) j) _ e .1)
 
-  like-both : (k j : ℕ) → getD groups j 0 ≡ getD groups k 0 → getD labels j 0 ≡ getD labels k 0 → alike groups labels k j ≡ true
+  pub like-both : (k j : ℕ) → getD groups j 0 ≡ getD groups k 0 → getD labels j 0 ≡ getD labels k 0 → alike groups labels k j ≡ true
   like-both k j e f = rw (eq-eqb _ _ e, eq-eqb _ _ f)
 
   module _ {before : List ℕ} {g head : ℕ} (c : Chain groups labels before g head) where

@@ -13,7 +13,7 @@ pub fn are_small(numbers: &[u32]) -> bool
 {
     let mut place = 0;
     while place < numbers.len() {
-        if NUMBERS <= numbers[place] as usize {
+        if 4095 < numbers[place] {
             return false;
         }
         place += 1;
@@ -49,7 +49,7 @@ fn narrow_upper(numbers: &[u32], small: &mut [u32])
 // The last digit of each number, and what stands before it.
 fn split(numbers: &[u32], upper: &mut [u32], low: &mut [u32])
     requires { ⌜ (length (now numbers) ≤ length (now upper)) × (length (now numbers) ≤ length (now low)) ⌝ }
-    ensures { λ _. ⌜ Halved (now (numbers .entry)) (now (upper .exit)) (now (low .exit)) ⌝ }
+    ensures { λ _. ⌜ Halved (now (numbers .entry)) (length (now (numbers .entry))) (now (upper .exit)) (now (low .exit)) ⌝ }
 {
     let mut place = 0;
     while place < numbers.len() {

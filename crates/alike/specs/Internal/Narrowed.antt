@@ -9,10 +9,10 @@ use lib.ListN.{length, getD}
 pub record Small (numbers : List ℕ) : Type 0 where
   pub each : (k : ℕ) → k < length numbers → getD numbers k 0 < 4096
 
--- of each number the last digit by 4,096, and what stands before it
-pub record Halved (numbers upper low : List ℕ) : Type 0 where
-  pub before : (k : ℕ) → k < length numbers → getD upper k 0 ≡ getD numbers k 0 / 4096
-  pub last : (k : ℕ) → k < length numbers → getD low k 0 ≡ getD numbers k 0 % 4096
+-- of each of the first n numbers the last digit by 4,096, and what stands before it
+pub record Halved (numbers : List ℕ) (n : ℕ) (upper low : List ℕ) : Type 0 where
+  pub before : (k : ℕ) → k < n → getD upper k 0 ≡ getD numbers k 0 / 4096
+  pub last : (k : ℕ) → k < n → getD low k 0 ≡ getD numbers k 0 % 4096
 
 -- small numbers that are the same exactly where the numbers are
 pub record Narrowed (numbers small : List ℕ) : Type 0 where
