@@ -1,9 +1,10 @@
--- A cage that the check accepts, without doubled pairs and without slits, is built again from its own VERT: `own-tables`.
--- Assumes nothing.
+-- Cages that are built again from their own VERT. Assumes nothing.
+--     own-tables      a cage that the check accepts, without doubled pairs and without slits, is
+--     own-only        no other is
 use Prim.Native.Nat.{ℕ, _%_, _≤_, _<_}
-use mathlib.Core.Path.{_≡_, sym, ap, _∙_}
+use mathlib.Core.Path.{_≡_, refl, sym, ap, _∙_}
 use mathlib.Core.Logic.{_≢_, _⊎_, inl, inr}
-use mathlib.Core.Bool.{false, not, true≢false}
+use mathlib.Core.Bool.{true, false, not, _&&_, true≢false}
 use mathlib.Core.List.{List}
 use native.Mathlib.Decide.{ℕ-discrete}
 use native.Mathlib.Omega.{arith}
@@ -12,11 +13,11 @@ use lib.IntN.{ℤ}
 use lib.ListN.{length}
 use lib.Seq.{ext-getD}
 use borrow.Author.Tests.{eq-eqb, ne-eqb, eqb-true, not-false}
-use Rattle.laws.proofs.Tests.{by-test, or-false, same-eqb}
-use Rattle.halfedges.specs.Cage.{marker, cell}
+use Rattle.laws.proofs.Tests.{by-test, and-true, or-false, same-eqb}
+use Rattle.halfedges.specs.Cage.{marker, most-halfedges, cell, border}
 use Rattle.halfedges.specs.Refusals.{DONE, SHAPE, LIMIT, TWIN, VERTEX, EDGE, FAN, DOUBLED, givenAt, first}
 use Rattle.halfedges.specs.Counts.{aboveLimit}
-use Rattle.halfedges.proofs.Checks.{is-passed, not-given, clean-done, passed-clean, AllPassed, none, also, passed-all, all-passed-done}
+use Rattle.halfedges.proofs.Checks.{is-passed, not-given, clean-done, passed-clean, AllPassed, none, also, passed-all, all-passed-done, done-passes}
 use Rattle.halfedges.proofs.Questions.{limits-kept}
 use Rattle.tables.specs.Tables.{Tables}
 use Rattle.tables.specs.Rules.{misshapen, badVertex}
@@ -30,7 +31,8 @@ use Rattle.triangles.specs.Plain.{Undoubled, twins, twinOf, twinTable, edgeTabl
 use Rattle.triangles.proofs.Opposite.{Opposite, opposite, are-twins, no-twin, twins-long, twin-at, one-runs, twin-is}
 use Rattle.triangles.proofs.RuleSix.{edges-numbered}
 use Rattle.building.specs.Building.{unshaped, buildChecks}
-use Rattle.building.specs.Own.{Slitless, share, OwnTables}
+use Rattle.building.specs.Own.{slit, Slitless, share, OwnTables}
+use Rattle.building.proofs.Passed.{done-undoubled}
 
 -- ---- TWIN
 
@@ -122,3 +124,23 @@ module _ (c : Tables) (points : List ℤ) where
             twin = own;
             edge = rw own (share-alike (c .twin) (edgeTable (c .twin)) (c .edge) small (edges-numbered (c .twin) p small) m);
           }
+
+  pub own-only : OwnTables c points → Undoubled (c .vert) × Slitless c
+  unfolding buildChecks
+  own-only w = (u, record { none = λ g h lg lh. by-test (slit c g h) (λ t. absurd (closed g h lg lh t)) (λ f. f) })
+    where
+      u : Undoubled (c .vert)
+      u = done-undoubled (c .vert) points (w .accepted)
+
+      long : length (c .twin) ≡ length (c .vert)
+      long = ap length (sym (w .twin)) ∙ twins-long (c .vert)
+
+      few : length (c .vert) ≤ most-halfedges
+      few = limits-kept _ (vertices points) 0 (done-passes _ LIMIT _ refl (done-passes _ SHAPE _ refl (w .accepted) .1) .0) .0
+
+      closed : (g h : ℕ) → g < length (c .twin) → h < length (c .twin) → slit c g h ≡ true → ⊥
+      closed g h lg lh t =
+          let b = and-true (border (c .twin) g && border (c .twin) h) _ t in
+          let m : cell (c .twin) h ≡ marker = eqb-true _ _ (and-true (border (c .twin) g) _ (b .0) .1) in
+          let n : cell (c .twin) h ≡ twinOf (c .vert) h = ap (λ x. cell x h) (sym (w .twin)) ∙ twin-at (c .vert) h (rw long at lh) in
+          omega (arith, few, long, twin-is (c .vert) u h g (rw long at lg) (opposite (c .vert) h g (b .1)))
