@@ -1,3 +1,5 @@
 pub mod Opposite
 pub mod Numbering
 pub mod RuleSix
+pub mod FirstPairs
+pub mod Doubles
