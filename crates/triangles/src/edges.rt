@@ -25,8 +25,8 @@ pub fn write_edges(twin: &[u32], edge: &mut [u32])
 // A halfedge's edge: the next number where the halfedge is its edge's lowest, else its twin's. Gives how many numbers are used. The marker
 // is above every halfedge, so one comparison tells.
 fn put_edge(twin: &[u32], edge: &mut [u32], halfedge: usize, edges: u32) -> u32
-    requires { ⌜ Paired (now twin) × (length (now twin) ≤ most-halfedges) × (length (now twin) ≤ length (now edge)) ⌝ }
-    requires { ⌜ (halfedge < length (now twin)) × (edges ≤ halfedge) ⌝ }
+    requires { ⌜ (halfedge < length (now twin)) × (halfedge < length (now edge)) ⌝ }
+    requires { ⌜ (halfedge < most-halfedges) × (edges ≤ halfedge) ⌝ }
     ensures { λ r. ⌜ r ≡ edges + cond (isLowest (now (twin .entry)) halfedge) 1 0 ⌝ }
     ensures { λ _.
         ⌜ now (edge .exit) ≡ set (now (edge .entry)) halfedge
