@@ -174,7 +174,7 @@ pub fn fill(
 }
 
 // Copies a table to the front of another.
-fn copy(from: &[u32], to: &mut [u32])
+pub fn copy(from: &[u32], to: &mut [u32])
     requires { ⌜ length (now from) ≤ length (now to) ⌝ }
     ensures { λ _. ⌜ now (to .exit) ≡ inFront (now (from .entry)) (now (to .entry)) ⌝ }
 {
