@@ -11,10 +11,9 @@ use native.Mathlib.Omega.{arith}
 use lib.ListN.{length, getD, set, take}
 use lib.Seq.{getD-set-same, getD-set-other, getD-take, length-take-le}
 use Rattle.laws.proofs.Tests.{same-eqb}
-use Rattle.laws.proofs.Lowest.{lowest-passes, lowest-at-most}
 use Rattle.alike.specs.Internal.Alike.{alike, firstLike, Firsts, Keyed}
 use Rattle.alike.specs.Internal.Narrowed.{Halved, Narrowed}
-use Rattle.alike.proofs.Walks.{like-group, like-label, like-both}
+use Rattle.alike.proofs.Firsts.{like-group, like-label, like-both, first-like, first-least}
 
 pub halved-on : (numbers : List ℕ) (n : ℕ) (upper low : List ℕ) → n < length upper → n < length low → Halved numbers n upper low → Halved numbers (n + 1) (set upper n (getD numbers n 0 / 4096)) (set low n (getD numbers n 0 % 4096))
 halved-on numbers n upper low lu ll h =
@@ -73,22 +72,20 @@ module _ (numbers upper low groups : List ℕ) (h : Halved numbers (length numbe
       (group lj ∙ by-upper j k lj lk .1 (h .before j lj ∙ ap (λ x. x / 4096) e ∙ sym (h .before k lk)) ∙ sym (group lk))
       (label lj ∙ ap (λ x. x % 4096) e ∙ sym (label lk))
 
-  first-like : (k : ℕ) → k < n → alike g d k (firstLike g d k) ≡ true
-  unfolding firstLike
-  first-like k l = lowest-passes (length g) (alike g d k) k (rw long l) (like-both g d k k refl refl)
+  like : (k : ℕ) → k < n → alike g d k (firstLike g d k) ≡ true
+  like k l = first-like g d k (rw long l)
 
-  first-least : (k j : ℕ) → j < n → alike g d k j ≡ true → firstLike g d k ≤ j
-  unfolding firstLike
-  first-least k j l e = lowest-at-most (length g) (alike g d k) j (rw long l) e
+  least : (k j : ℕ) → j < n → alike g d k j ≡ true → firstLike g d k ≤ j
+  least k j l e = first-least g d k j (rw long l) e
 
   first-below : (k : ℕ) → k < n → firstLike g d k ≤ k
-  first-below k l = first-least k k l (like-both g d k k refl refl)
+  first-below k l = least k k l (like-both g d k k refl refl)
 
   -- the first that is like j is the first that is like k, where j's number is k's
   not-above : (j k : ℕ) → j < n → k < n → getD numbers j 0 ≡ getD numbers k 0 → firstLike g d k ≤ firstLike g d j
   not-above j k lj lk e =
       let l : firstLike g d j < n = omega (arith, first-below j lj) in
-      first-least k (firstLike g d j) l (alike-number (firstLike g d j) k l lk (same-number (firstLike g d j) j l lj (first-like j lj) ∙ e))
+      least k (firstLike g d j) l (alike-number (firstLike g d j) k l lk (same-number (firstLike g d j) j l lj (like j lj) ∙ e))
 
   pub firsts-narrow : (small : List ℕ) → Firsts g d small → Narrowed numbers small
   firsts-narrow small f =
@@ -104,9 +101,9 @@ module _ (numbers upper low groups : List ℕ) (h : Halved numbers (length numbe
       to j k lj lk e =
           let l : firstLike g d j < n = omega (arith, first-below j lj) in
           let m : firstLike g d k < n = omega (arith, first-below k lk) in
-          sym (same-number (firstLike g d j) j l lj (first-like j lj))
+          sym (same-number (firstLike g d j) j l lj (like j lj))
           ∙ ap (λ i. getD numbers i 0) (sym (at j lj) ∙ e ∙ at k lk)
-          ∙ same-number (firstLike g d k) k m lk (first-like k lk)
+          ∙ same-number (firstLike g d k) k m lk (like k lk)
 
       back : (j k : ℕ) → j < n → k < n → getD numbers j 0 ≡ getD numbers k 0 → getD small j 0 ≡ getD small k 0
       back j k lj lk e = omega (arith, at j lj, at k lk, not-above j k lj lk e, not-above k j lk lj (sym e))

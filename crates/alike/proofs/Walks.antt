@@ -5,18 +5,17 @@
 use Prim.Native.Nat.{ℕ, _+_, _-_, _≤_, _<_}
 use mathlib.Core.Path.{_≡_, refl, sym, ap, _∙_}
 use mathlib.Core.Logic.{_≢_}
-use mathlib.Core.Bool.{true, false}
+use mathlib.Core.Bool.{true}
 use mathlib.Core.List.{List}
 use native.Mathlib.Decide.{ℕ-discrete, decLt}
 use native.Mathlib.Omega.{arith}
-use lib.Dec.{eqb}
 use lib.ListN.{length, getD, set}
 use lib.Seq.{getD-set-same, getD-set-other}
-use borrow.Author.Tests.{eq-eqb, eqb-true}
 use Rattle.laws.specs.Below.{lowest}
-use Rattle.laws.proofs.Tests.{by-test, and-true}
+use Rattle.laws.proofs.Tests.{by-test}
 use Rattle.laws.proofs.Lowest.{lowest-is}
-use Rattle.alike.specs.Internal.Alike.{inGroup, alike, firstLike, Chain, Marked, Told}
+use Rattle.alike.specs.Internal.Alike.{alike, firstLike, Chain, Marked, Told}
+use Rattle.alike.proofs.Firsts.{like-group, like-label, like-both}
 use Rattle.alike.proofs.Chains.{At, past-head, item-below, next-less, none-between}
 
 module _ (groups labels : List ℕ) where
@@ -47,15 +46,6 @@ module _ (groups labels : List ℕ) where
       by k l b (yes e) = t .same k l e
       by k l b (no n) = t .kept k n ∙ w .each k l (omega (arith, n))
 
-  pub like-group : (k j : ℕ) → alike groups labels k j ≡ true → getD groups j 0 ≡ getD groups k 0
-  like-group k j e = eqb-true _ _ (and-true (inGroup groups (getD groups k 0) j) _ e .0)
-
-  pub like-label : (k j : ℕ) → alike groups labels k j ≡ true → getD labels j 0 ≡ getD labels k 0
-  like-label k j e = eqb-true _ _ (and-true (inGroup groups (getD groups k 0) j) _ e .1)
-
-  pub like-both : (k j : ℕ) → getD groups j 0 ≡ getD groups k 0 → getD labels j 0 ≡ getD labels k 0 → alike groups labels k j ≡ true
-  like-both k j e f = rw (eq-eqb _ _ e, eq-eqb _ _ f)
-
   module _ {before : List ℕ} {g head : ℕ} (c : Chain groups labels before g head) where
     pub lower-start : (marks : List ℕ) → Lower g head marks
     lower-start marks = record { each = λ k l e m. absurd (omega (arith, past-head c k l e)) }
@@ -78,8 +68,8 @@ module _ (groups labels : List ℕ) where
           record {
             from = omega (arith, next-less c a n);
             within = item-below c a n;
-            like = like-both k (end - 1) (a .here n ∙ sym e) (sym q);
-            least = λ j lj mj t. by j (from-next j lj (like-group k j t ∙ e)) (ℕ-discrete j (end - 1));
+            like = like-both groups labels k (end - 1) (a .here n ∙ sym e) (sym q);
+            least = λ j lj mj t. by j (from-next j lj (like-group groups labels k j t ∙ e)) (ℕ-discrete j (end - 1));
           }
         where
           by : (j : ℕ) → (j ≢ end - 1 → end ≤ j) → Dec (j ≡ end - 1) → end - 1 ≤ j
@@ -95,7 +85,7 @@ module _ (groups labels : List ℕ) where
                 from = omega (arith, next-less c a n, f .from);
                 within = f .within;
                 like = f .like;
-                least = λ j lj mj t. f .least j (from-next j lj (like-group k j t ∙ e) (λ z. q (sym (like-label k j t) ∙ ap (λ i. getD labels i 0) z))) mj t;
+                least = λ j lj mj t. f .least j (from-next j lj (like-group groups labels k j t ∙ e) (λ z. q (sym (like-label groups labels k j t) ∙ ap (λ i. getD labels i 0) z))) mj t;
               }
 
       pub lower-on : Lower g next (set marks (getD labels (end - 1) 0) (end - 1))

@@ -13,10 +13,9 @@ use lib.Dec.{eqb}
 use lib.ListN.{length, set, take, length-set}
 use lib.Seq.{getD-set-same, getD-set-other, getD-take, length-take-le}
 use Rattle.laws.proofs.Tests.{by-test}
-use Rattle.laws.proofs.Lowest.{lowest-passes, lowest-at-most}
 use Rattle.alike.specs.Internal.Alike.{alike, firstLike, Firsts, Keyed}
 use Rattle.alike.specs.Internal.Narrowed.{Small}
-use Rattle.alike.proofs.Walks.{like-group, like-label, like-both}
+use Rattle.alike.proofs.Firsts.{like-group, like-label, like-both, first-like, first-least}
 use Rattle.halfedges.specs.Cage.{NEXT, cell}
 use Rattle.halfedges.proofs.Triangle.{next-below}
 use Rattle.triangles.specs.Plain.{runs}
@@ -116,13 +115,11 @@ module _ (vert from to : List ℕ) (p : Listed vert from to (length vert)) (lf :
       below k l (no b) = past k (k - n) (omega (arith, b)) (omega (arith, b))
 
   -- an item's first
-  first-like : (k : ℕ) → k < 2 * n → alike groups labels k (firstLike groups labels k) ≡ true
-  unfolding firstLike
-  first-like k l = lowest-passes (length groups) (alike groups labels k) k (rw long l) (like-both groups labels k k refl refl)
+  like : (k : ℕ) → k < 2 * n → alike groups labels k (firstLike groups labels k) ≡ true
+  like k l = first-like groups labels k (rw long l)
 
-  first-least : (k j : ℕ) → j < 2 * n → alike groups labels k j ≡ true → firstLike groups labels k ≤ j
-  unfolding firstLike
-  first-least k j l e = lowest-at-most (length groups) (alike groups labels k) j (rw long l) e
+  least : (k j : ℕ) → j < 2 * n → alike groups labels k j ≡ true → firstLike groups labels k ≤ j
+  least k j l e = first-least groups labels k j (rw long l) e
 
   -- a halfedge j is like item k exactly where it runs between k's group and label
   like-runs : (k j : ℕ) → j < n → alike groups labels k j ≡ true → runs vert (cell groups k) (cell labels k) j ≡ true
@@ -137,9 +134,9 @@ module _ (vert from to : List ℕ) (p : Listed vert from to (length vert)) (lf :
   pub firsts-pairs : (first : List ℕ) → Firsts groups labels first → FirstPairs vert first
   firsts-pairs first f =
       record {
-        own = λ h l. rw (← group-own h l, ← label-own h l, at h (omega arith)) (like-runs h _ (below h l) (first-like h (omega arith)));
-        own-first = λ h g l m e. rw (at h (omega arith)) (first-least h g (omega arith) (runs-like h g m (rw (group-own h l, label-own h l) e)));
-        opposite = λ h l b. rw (← group-opposite h l, ← label-opposite h l, at (n + h) (omega arith)) (like-runs (n + h) _ (rw (← at (n + h) (omega arith)) b) (first-like (n + h) (omega arith)));
+        own = λ h l. rw (← group-own h l, ← label-own h l, at h (omega arith)) (like-runs h _ (below h l) (like h (omega arith)));
+        own-first = λ h g l m e. rw (at h (omega arith)) (least h g (omega arith) (runs-like h g m (rw (group-own h l, label-own h l) e)));
+        opposite = λ h l b. rw (← group-opposite h l, ← label-opposite h l, at (n + h) (omega arith)) (like-runs (n + h) _ (rw (← at (n + h) (omega arith)) b) (like (n + h) (omega arith)));
         missing = λ h g l m b. by-test (runs vert (cell vert (NEXT h)) (cell vert h) g) (λ e. absurd (none h g l m b e)) (λ e. e);
       }
     where
@@ -147,11 +144,11 @@ module _ (vert from to : List ℕ) (p : Listed vert from to (length vert)) (lf :
       at k l = f .each k (rw long l)
 
       below : (h : ℕ) → h < n → firstLike groups labels h < n
-      below h l = omega (arith, first-least h h (omega arith) (like-both groups labels h h refl refl))
+      below h l = omega (arith, least h h (omega arith) (like-both groups labels h h refl refl))
 
       none : (h g : ℕ) → h < n → g < n → n ≤ cell first (n + h) → runs vert (cell vert (NEXT h)) (cell vert h) g ≡ true → ⊥
       none h g l m b e =
-          omega (arith, at (n + h) (omega arith), first-least (n + h) g (omega arith) (runs-like (n + h) g m (rw (group-opposite h l, label-opposite h l) e)))
+          omega (arith, at (n + h) (omega arith), least (n + h) g (omega arith) (runs-like (n + h) g m (rw (group-opposite h l, label-opposite h l) e)))
 
 -- ---- other numbers in place of the corners
 
