@@ -1,9 +1,10 @@
 //! The independent second program of Ryebadger. It is written from document
-//! 01, the scope of the build, and from nothing else, so that the proved
-//! program can be compared with it.
+//! 01, the scope of the build, and document 02, its requests, and from nothing
+//! else, so that the proved program can be compared with it.
 //!
 //! Every public function answers for any table, number or bytes.
 
+pub mod build;
 pub mod cage;
 pub mod check;
 pub mod corners;

@@ -1,5 +1,5 @@
-//! Document 01, "Why a cage is sent back": the refusal numbers by name, and
-//! the refusal itself.
+//! Document 01, "Why a cage is sent back", and what document 02 adds to it: the
+//! refusal numbers by name, and the refusal itself.
 
 use std::fmt;
 
@@ -15,6 +15,7 @@ pub const ROOM: u32 = 9;
 pub const SHORT: u32 = 10;
 pub const FIELD: u32 = 11;
 pub const EXTRA: u32 = 12;
+pub const DOUBLED: u32 = 13;
 
 /// The first check that holds, and where.
 #[derive(Clone, Copy, Debug, PartialEq, Eq)]

@@ -1,8 +1,7 @@
 //! For trying what document 01 says about "The cage": from a list of
 //! triangles to the four tables, and simple changes of a sewn cage.
 
-use std::collections::HashMap;
-
+use crate::build::{edges_by_lowest_halfedge, Directions};
 use crate::cage::{Cage, MARKER};
 
 /// The corners of each triangle.
@@ -12,7 +11,7 @@ pub(crate) type Triangles = Vec<[u32; 3]>;
 /// between the same two vertices in opposite directions are twins.
 pub(crate) fn sew(triangles: impl IntoIterator<Item = [u32; 3]>) -> Cage {
     let triangles: Triangles = triangles.into_iter().collect();
-    let twin = twins_by_direction(&triangles);
+    let twin = Directions::of(triangles.as_flattened()).twins();
     sew_with_twins(triangles, twin)
 }
 
@@ -26,26 +25,6 @@ pub(crate) fn sew_with_twins(triangles: Triangles, twin: Vec<u32>) -> Cage {
         twin,
         vert,
     }
-}
-
-fn twins_by_direction(triangles: &[[u32; 3]]) -> Vec<u32> {
-    let corners = triangles.iter();
-    let directions = corners.flat_map(|&[a, b, c]| [(a, b), (b, c), (c, a)]);
-    let halfedges: HashMap<(u32, u32), u32> = directions.clone().zip(0..).collect();
-    directions
-        .map(|(from, to)| halfedges.get(&(to, from)).copied().unwrap_or(MARKER))
-        .collect()
-}
-
-/// Numbers the edges in the order of their lowest halfedges.
-fn edges_by_lowest_halfedge(twin: &[u32]) -> Vec<u32> {
-    let mut edge: Vec<u32> = Vec::new();
-    let mut fresh = 0..;
-    for &twin in twin {
-        let number_of_lower_twin = edge.get(twin as usize).copied();
-        edge.extend(number_of_lower_twin.or_else(|| fresh.next()));
-    }
-    edge
 }
 
 /// The cage with the edge of `h` cut open: two border edges in its stead.
