@@ -1,4 +1,6 @@
-//! For trying what document 01 says: count questions and corner questions.
+//! For trying what document 01 says: count questions and corner questions; and
+//! what document 02 says: plain triangles.
 
 pub mod corners;
 pub mod counts;
+pub mod triangles;
