@@ -1,5 +1,6 @@
-/* Ryebadger for C and C++: check, quote, refine, read and write a triangle cage. The words, numbers and tables are those of
- * document 01, the scope of the build; what each operation promises here is proved of it.
+/* Ryebadger for C and C++: check, quote, refine, read and write a triangle cage, or build one from plain triangles. The words,
+ * numbers and tables are those of document 01, the scope of the build, and of document 02, its requests; what each operation
+ * promises here is proved of it.
  *
  * The archive to link is target/host/libryebadger.a, which host/build makes.
  *
@@ -44,25 +45,26 @@ extern "C" {
 #define RYEBADGER_LEVELS 7
 #define RYEBADGER_LONGEST_FILE 43032
 
-/* The numbers of an answer, by document 01's names, with the place that goes with each. Checks run in the order of their
- * numbers, except in reading; the first that holds is the answer. */
+/* The numbers of an answer, by the documents' names, with the place that goes with each. Checks run in the order of their
+ * numbers, except in reading and in building; the first that holds is the answer. */
 enum ryebadger_number {
-    RYEBADGER_DONE = 0,   /* 0 */
-    RYEBADGER_SHAPE = 1,  /* lengths or counts that no cage has: 0 */
-    RYEBADGER_LIMIT = 2,  /* H, V or the depth is above its limit: 0 */
-    RYEBADGER_TWIN = 3,   /* a twin that is none: the lowest such halfedge */
-    RYEBADGER_VERTEX = 4, /* a vertex out of range, or not where the next or the twin has it: the lowest such halfedge */
-    RYEBADGER_UNUSED = 5, /* a vertex on no halfedge: the lowest such vertex */
-    RYEBADGER_EDGE = 6,   /* an edge out of range, unlike the twin's or carried elsewhere: the lowest such halfedge */
-    RYEBADGER_FAN = 7,    /* corners at a vertex that are not one fan: the lowest such vertex */
-    RYEBADGER_POINT = 8,  /* a coordinate out of range: the lowest such index in the points */
-    RYEBADGER_ROOM = 9,   /* a lent table is too short: the first, as 1 twin, 2 vert, 3 edge, 4 points, 5 file */
-    RYEBADGER_SHORT = 10, /* the file ends before a field's head and payload are whole: the offset of that head */
-    RYEBADGER_FIELD = 11, /* wrong tag, length or form number: the offset of that head */
-    RYEBADGER_EXTRA = 12  /* bytes after the end field: the offset of the first */
+    RYEBADGER_DONE = 0,    /* 0 */
+    RYEBADGER_SHAPE = 1,   /* lengths or counts that no cage has: 0 */
+    RYEBADGER_LIMIT = 2,   /* H, V or the depth is above its limit: 0 */
+    RYEBADGER_TWIN = 3,    /* a twin that is none: the lowest such halfedge */
+    RYEBADGER_VERTEX = 4,  /* a vertex out of range, or not where the next or the twin has it: the lowest such halfedge */
+    RYEBADGER_UNUSED = 5,  /* a vertex on no halfedge: the lowest such vertex */
+    RYEBADGER_EDGE = 6,    /* an edge out of range, unlike the twin's or carried elsewhere: the lowest such halfedge */
+    RYEBADGER_FAN = 7,     /* corners at a vertex that are not one fan: the lowest such vertex */
+    RYEBADGER_POINT = 8,   /* a coordinate out of range: the lowest such index in the points */
+    RYEBADGER_ROOM = 9,    /* a lent table is too short: the first, as 1 twin, 2 vert, 3 edge, 4 points, 5 file */
+    RYEBADGER_SHORT = 10,  /* the file ends before a field's head and payload are whole: the offset of that head */
+    RYEBADGER_FIELD = 11,  /* wrong tag, length or form number: the offset of that head */
+    RYEBADGER_EXTRA = 12,  /* bytes after the end field: the offset of the first */
+    RYEBADGER_DOUBLED = 13 /* two halfedges from the same vertex to the same one: the lowest that has such a double */
 };
 
-/* The lengths of the answers. */
+/* The lengths of the answers. Building answers as the cage check does, refining as the count question. */
 #define RYEBADGER_CHECK_ANSWER 7
 #define RYEBADGER_COUNTS_ANSWER 25
 #define RYEBADGER_CORNERS_ANSWER 5
@@ -115,6 +117,15 @@ void ryebadger_read(const uint8_t *file, size_t file_length, uint32_t *lent_twin
 void ryebadger_write(const uint32_t *twin, size_t twin_length, const uint32_t *vert, size_t vert_length,
                      const uint32_t *edge, size_t edge_length, const int32_t *points, size_t points_length,
                      uint8_t *lent_file, size_t lent_file_length, uint32_t answer[RYEBADGER_WRITE_ANSWER]);
+
+/* Building a cage from plain triangles, which are VERT, a triangle's three corner numbers after another's, and the points.
+ * Refusals 1, 2, 13, 4, 5, 7, 8 and 9, in this order; 9 has place 1 or 3. Done, TWIN and EDGE stand at the front of the
+ * lent tables. With VERT and the points they are a cage that the check accepts, and the values are the check's. Two
+ * different halfedges are twins exactly when they run between the same two vertices the opposite way, and edges are
+ * numbered in the order of their lowest halfedges. Needed is H in each lent table; cells past that are untouched. */
+void ryebadger_build(const uint32_t *vert, size_t vert_length, const int32_t *points, size_t points_length,
+                     uint32_t *lent_twin, size_t lent_twin_length, uint32_t *lent_edge, size_t lent_edge_length,
+                     uint32_t answer[RYEBADGER_CHECK_ANSWER]);
 
 #ifdef __cplusplus
 }

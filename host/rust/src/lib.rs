@@ -1,8 +1,9 @@
-//! Ryebadger for Rust: check, quote, refine, read and write a triangle cage.
+//! Ryebadger for Rust: check, quote, refine, read and write a triangle cage, or
+//! build one from plain triangles.
 //!
 //! The operations are proved, and linked as an archive; this crate hands them
 //! slices and names their answers. The words and numbers are those of document
-//! 01, the scope of the build.
+//! 01, the scope of the build, and of document 02, its requests.
 //!
 //! | To | Call |
 //! |---|---|
@@ -12,10 +13,11 @@
 //! | get a triangle's corners | [`corners`] |
 //! | read a cage file | [`OwnedCage::read`], or [`read`] into lent tables |
 //! | write a cage file | [`Cage::to_file`], or [`write()`] into a lent buffer |
+//! | build a cage from plain triangles | [`OwnedCage::from_triangles`], or [`build`] into lent tables |
 //!
 //! Nothing here panics on any input. `check`, `counts`, `refine`, `corners`,
-//! `read` and `write` allocate nothing; the others end the program, as Rust
-//! does, where memory is short.
+//! `read`, `write` and `build` allocate nothing; the others end the program, as
+//! Rust does, where memory is short.
 //!
 //! ```
 //! use ryebadger::{OwnedCage, Refined};
@@ -41,7 +43,7 @@ pub use cage::{
     VERTEX_LIMIT,
 };
 pub use operations::{
-    check, corners, counts, read, refine, write, CageCounts, FileCounts, LevelCounts, LEVELS,
+    build, check, corners, counts, read, refine, write, CageCounts, FileCounts, LevelCounts, LEVELS,
 };
 pub use owned::{Refined, LONGEST_FILE};
 pub use refusal::{Refusal, Table};

@@ -1,4 +1,4 @@
-//! The six operations of document 01, each with a `Result`.
+//! The operations of documents 01 and 02, each with a `Result`.
 //!
 //! Every operation answers for any input; its refusals are those listed with
 //! it. A refusal leaves every lent cell as it was.
@@ -71,15 +71,7 @@ pub struct FileCounts {
 pub fn check(cage: Cage<'_>) -> Result<CageCounts, Refusal> {
     let mut answer = [0; sys::CHECK_ANSWER];
     sys::check(cage, &mut answer);
-    let [number, place, halfedges, edges, triangles, vertices, borders] = answer;
-    refuse(number, place)?;
-    Ok(CageCounts {
-        halfedges,
-        edges,
-        triangles,
-        vertices,
-        borders,
-    })
+    checked(answer)
 }
 
 /// The count question: H, E, V and a depth. Gives refusals 1 and 2.
@@ -154,12 +146,50 @@ pub fn write(cage: Cage<'_>, lent_file: &mut [u8]) -> Result<usize, Refusal> {
     Ok(length as usize)
 }
 
+/// Building a cage from plain triangles: VERT, which has the corners of one
+/// triangle after another's, and the points. TWIN and EDGE go to the front of
+/// the lent tables; cells past H are untouched. Gives refusals 1, 2, 13, 4, 5,
+/// 7, 8 and 9, in this order.
+/// [`OwnedCage::from_triangles`](crate::OwnedCage::from_triangles) allocates.
+///
+/// ```
+/// // Document 01's pillow.
+/// let (mut twin, mut edge) = ([0; 6], [0; 6]);
+/// let counts = ryebadger::build(&[0, 1, 2, 0, 2, 1], &[0; 9], &mut twin, &mut edge)?;
+/// assert_eq!(twin, [5, 4, 3, 2, 1, 0]);
+/// assert_eq!(edge, [0, 1, 2, 2, 1, 0]);
+/// assert_eq!((counts.edges, counts.borders), (3, 0));
+/// # Ok::<(), ryebadger::Refusal>(())
+/// ```
+pub fn build(
+    vert: &[u32],
+    points: &[i32],
+    lent_twin: &mut [u32],
+    lent_edge: &mut [u32],
+) -> Result<CageCounts, Refusal> {
+    let mut answer = [0; sys::CHECK_ANSWER];
+    sys::build(vert, points, lent_twin, lent_edge, &mut answer);
+    checked(answer)
+}
+
 /// The refusal of a number that is not 0.
 fn refuse(number: u32, place: u32) -> Result<(), Refusal> {
     match number {
         0 => Ok(()),
         _ => Err(Refusal::told(number, place)),
     }
+}
+
+fn checked(answer: [u32; sys::CHECK_ANSWER]) -> Result<CageCounts, Refusal> {
+    let [number, place, halfedges, edges, triangles, vertices, borders] = answer;
+    refuse(number, place)?;
+    Ok(CageCounts {
+        halfedges,
+        edges,
+        triangles,
+        vertices,
+        borders,
+    })
 }
 
 fn counted(answer: &[u32; sys::COUNTS_ANSWER]) -> Result<LevelCounts, Refusal> {

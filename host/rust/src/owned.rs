@@ -1,10 +1,12 @@
-//! The operations with their tables allocated: reading into an owned cage, a
-//! whole file, and all levels of a cage.
+//! The operations with their tables allocated: reading and building an owned
+//! cage, a whole file, and all levels of a cage.
 
 use std::ops::Range;
 
 use crate::cage::{HALFEDGE_LIMIT, VERTEX_LIMIT};
-use crate::operations::{check, counts, read, refine, write, CageCounts, LevelCounts, LEVELS};
+use crate::operations::{
+    build, check, counts, read, refine, write, CageCounts, LevelCounts, LEVELS,
+};
 use crate::{Cage, OwnedCage, Refusal};
 
 /// The bytes of the longest cage file.
@@ -22,6 +24,37 @@ impl OwnedCage {
         cage.edge.truncate(halfedges);
         cage.points.truncate(3 * vertices);
         Ok(cage)
+    }
+
+    /// Builds a cage from plain triangles: three corner numbers for each, and
+    /// x, y, z of each vertex. Gives refusals 1, 2, 13, 4, 5, 7 and 8, in this
+    /// order.
+    ///
+    /// ```
+    /// use ryebadger::{OwnedCage, Refined};
+    ///
+    /// let triangles = [[0, 1, 2], [0, 2, 3], [0, 3, 1], [1, 3, 2]];
+    /// let points = [[0, 0, 0], [900, 0, 0], [0, 900, 0], [0, 0, 900]];
+    /// let cage = OwnedCage::from_triangles(triangles.as_flattened(), points.as_flattened())?;
+    /// assert_eq!(cage.twin[..3], [8, 11, 3]);
+    /// assert_eq!(Refined::new(cage.as_cage(), 6)?.counts().halfedges[6], 12 << 12);
+    ///
+    /// let twice = [[0, 1, 2], [3, 0, 1]];
+    /// let refusal = OwnedCage::from_triangles(twice.as_flattened(), points.as_flattened());
+    /// assert_eq!(refusal.unwrap_err().to_string(), "refusal 13, DOUBLED, at place 0");
+    /// # Ok::<(), ryebadger::Refusal>(())
+    /// ```
+    pub fn from_triangles(vert: &[u32], points: &[i32]) -> Result<OwnedCage, Refusal> {
+        // Past the limit the table is refused, and needs no room.
+        let halfedges = vert.len().min(HALFEDGE_LIMIT);
+        let (mut twin, mut edge) = (vec![0; halfedges], vec![0; halfedges]);
+        build(vert, points, &mut twin, &mut edge)?;
+        Ok(OwnedCage {
+            twin,
+            vert: vert.to_vec(),
+            edge,
+            points: points.to_vec(),
+        })
     }
 }
 

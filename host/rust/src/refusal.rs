@@ -1,4 +1,5 @@
-//! Document 01, "Why a cage is sent back": the refusals by name.
+//! Document 01, "Why a cage is sent back", and what document 02 adds to it: the
+//! refusals by name.
 
 use std::error::Error;
 use std::fmt;
@@ -66,7 +67,12 @@ pub enum Refusal {
         /// Of the first of them.
         offset: u32,
     },
-    /// A number or a place that document 01 does not have. The proved archive
+    /// 13: two halfedges run from the same vertex to the same one.
+    Doubled {
+        /// The lowest that has such a double.
+        halfedge: u32,
+    },
+    /// A number or a place that the documents do not have. The proved archive
     /// never gives it.
     Unknown {
         /// The number as it was given.
@@ -113,11 +119,12 @@ impl Refusal {
             (10, offset) => Refusal::Short { offset },
             (11, offset) => Refusal::Field { offset },
             (12, offset) => Refusal::Extra { offset },
+            (13, halfedge) => Refusal::Doubled { halfedge },
             _ => Refusal::Unknown { number, place },
         }
     }
 
-    /// Document 01's number, place and name.
+    /// The documents' number, place and name.
     fn parts(&self) -> (u32, u32, &'static str) {
         match *self {
             Refusal::Shape => (1, 0, "SHAPE"),
@@ -132,21 +139,22 @@ impl Refusal {
             Refusal::Short { offset } => (10, offset, "SHORT"),
             Refusal::Field { offset } => (11, offset, "FIELD"),
             Refusal::Extra { offset } => (12, offset, "EXTRA"),
+            Refusal::Doubled { halfedge } => (13, halfedge, "DOUBLED"),
             Refusal::Unknown { number, place } => (number, place, "UNKNOWN"),
         }
     }
 
-    /// Document 01's number.
+    /// The documents' number.
     pub fn number(&self) -> u32 {
         self.parts().0
     }
 
-    /// Document 01's place.
+    /// The documents' place.
     pub fn place(&self) -> u32 {
         self.parts().1
     }
 
-    /// Document 01's name.
+    /// The documents' name.
     pub fn name(&self) -> &'static str {
         self.parts().2
     }
@@ -165,11 +173,11 @@ impl Error for Refusal {}
 mod tests {
     use super::Refusal;
 
-    /// Names lose nothing of an answer, also of one that document 01 does not
+    /// Names lose nothing of an answer, also of one that the documents do not
     /// have.
     #[test]
     fn number_and_place_are_kept() {
-        for number in 1..=13 {
+        for number in 1..=14 {
             for place in [0, 1, 2, 3, 4, 5, 6, 43_032, u32::MAX] {
                 let refusal = Refusal::told(number, place);
                 assert_eq!((refusal.number(), refusal.place()), (number, place));
@@ -178,10 +186,10 @@ mod tests {
     }
 
     #[test]
-    fn names_stand_in_document_01s_order() {
+    fn names_stand_in_the_documents_order() {
         let names = [
             "SHAPE", "LIMIT", "TWIN", "VERTEX", "UNUSED", "EDGE", "FAN", "POINT", "ROOM", "SHORT",
-            "FIELD", "EXTRA",
+            "FIELD", "EXTRA", "DOUBLED",
         ];
         for (number, name) in (1..).zip(names) {
             let place = u32::from(number == 9);

@@ -11,7 +11,8 @@ use crate::{Cage, LentTables};
 #[cfg(not(target_pointer_width = "64"))]
 compile_error!("the archive takes lengths of 64 bits");
 
-/// The length of the cage check's answer: number, place, H, E, F, V and B.
+/// The length of the cage check's answer, which building gives too: number,
+/// place, H, E, F, V and B.
 pub const CHECK_ANSWER: usize = 7;
 
 /// The length of the count question's answer, which refining gives too: number,
@@ -54,6 +55,11 @@ extern "C" {
         twin: *const u32, twin_length: usize, vert: *const u32, vert_length: usize,
         edge: *const u32, edge_length: usize, points: *const i32, points_length: usize,
         lent_file: *mut u8, lent_file_length: usize,
+        answer: *mut u32,
+    );
+    fn ryebadger_build(
+        vert: *const u32, vert_length: usize, points: *const i32, points_length: usize,
+        lent_twin: *mut u32, lent_twin_length: usize, lent_edge: *mut u32, lent_edge_length: usize,
         answer: *mut u32,
     );
 }
@@ -132,6 +138,24 @@ pub fn write(cage: Cage<'_>, lent_file: &mut [u8], answer: &mut [u32; WRITE_ANSW
             cage.twin.as_ptr(), cage.twin.len(), cage.vert.as_ptr(), cage.vert.len(),
             cage.edge.as_ptr(), cage.edge.len(), cage.points.as_ptr(), cage.points.len(),
             lent_file.as_mut_ptr(), lent_file.len(),
+            answer.as_mut_ptr(),
+        );
+    }
+}
+
+/// Building a cage from plain triangles.
+#[rustfmt::skip]
+pub fn build(
+    vert: &[u32],
+    points: &[i32],
+    lent_twin: &mut [u32],
+    lent_edge: &mut [u32],
+    answer: &mut [u32; CHECK_ANSWER],
+) {
+    unsafe {
+        ryebadger_build(
+            vert.as_ptr(), vert.len(), points.as_ptr(), points.len(),
+            lent_twin.as_mut_ptr(), lent_twin.len(), lent_edge.as_mut_ptr(), lent_edge.len(),
             answer.as_mut_ptr(),
         );
     }
