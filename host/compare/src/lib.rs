@@ -1,5 +1,5 @@
 //! The comparison of the host library with the second program, an independent
-//! judge written from document 01 alone.
+//! judge written from documents 01 and 02 alone.
 //!
 //! A [`Question`] is put to three: the proved archive through its raw
 //! functions, the safe crate in front of it, and the second program. Each is

@@ -19,6 +19,9 @@ pub enum Question<'a> {
     Read(&'a [u8], [usize; 4]),
     /// Writing into a buffer of this length.
     Write(&'a Cage, usize),
+    /// Building from a VERT table and points, into a TWIN and an EDGE table of
+    /// these lengths.
+    Build(&'a [u32], &'a [i32], [usize; 2]),
 }
 
 impl Question<'_> {
@@ -41,6 +44,10 @@ impl Question<'_> {
                 left.file = marked_file(length);
                 asked.write(cage, &mut left.file)
             }
+            Question::Build(vert, points, [twin, edge]) => {
+                left.tables = marked_tables([twin, 0, edge, 0]);
+                asked.build(vert, points, &mut left.tables)
+            }
         };
         left
     }
@@ -60,6 +67,10 @@ impl Question<'_> {
             }
             Question::Read(file, lent) => format!("reading of {} bytes into {lent:?}", file.len()),
             Question::Write(cage, lent) => format!("writing of {} into {lent}", lengths(cage)),
+            Question::Build(vert, points, lent) => {
+                let (h, coordinates) = (vert.len(), points.len());
+                format!("building of {h} and {coordinates} coordinates into {lent:?}")
+            }
         }
     }
 }

@@ -44,6 +44,8 @@ fn one_wrong_cell_anywhere_is_reported_there() {
         Question::Read(&file[1..], room),
         Question::Write(&cage, file.len() + 3),
         Question::Write(&cage, file.len() - 1),
+        Question::Build(&cage.vert, &cage.points, [room[0], room[2]]),
+        Question::Build(&cage.vert, &cage.points, [6, 5]),
     ] {
         let judged = question.put_to(&SecondProgram);
         assert_eq!(first_difference(&question.put_to(&Archive), &judged), None);

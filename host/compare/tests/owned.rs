@@ -1,9 +1,10 @@
-//! What the safe crate allocates itself: a cage read, a file written, and all
-//! levels of a cage.
+//! What the safe crate allocates itself: a cage read, a cage built, a file
+//! written, and all levels of a cage.
 
 use compare::{accepted, file_of, handed, named, refused, room_at, Question, SecondProgram};
 use ryebadger::{OwnedCage, Refined};
 use second::file::read_cage;
+use second::questions::triangles::questions;
 
 #[test]
 fn an_owned_cage_is_what_the_second_program_reads() {
@@ -19,6 +20,31 @@ fn an_owned_cage_is_what_the_second_program_reads() {
         let numbers = (refusal.number(), u64::from(refusal.place()));
         assert_eq!(numbers, (judged.number, judged.place));
     }
+}
+
+/// Tables as long as VERT, of which building needs no more, and its refusals.
+#[test]
+fn a_cage_from_triangles_is_what_the_second_program_builds() {
+    let mut accepted = 0;
+    for question in questions() {
+        let (name, vert, points) = (&question.name, &question.vert, &question.points);
+        let asked = Question::Build(vert, points, [vert.len(); 2]);
+        let judged = asked.put_to(&SecondProgram);
+        match OwnedCage::from_triangles(vert, points) {
+            Ok(cage) => {
+                accepted += 1;
+                assert_eq!(judged.verdict(), (0, 0), "{name}");
+                assert_eq!(cage.twin, judged.tables.twin, "{name}");
+                assert_eq!(cage.edge, judged.tables.edge, "{name}");
+                assert_eq!((&cage.vert, &cage.points), (vert, points), "{name}");
+            }
+            Err(refusal) => {
+                let numbers = (refusal.number().into(), refusal.place().into());
+                assert_eq!(numbers, judged.verdict(), "{name}");
+            }
+        }
+    }
+    assert!(accepted > 100);
 }
 
 /// The levels one after the other are the second program's lent tables.

@@ -40,4 +40,9 @@ impl Operations for Archive {
     fn write(&self, cage: &Cage, lent_file: &mut [u8]) -> Vec<u64> {
         answered(|answer| sys::write(handed(cage), lent_file, answer))
     }
+
+    fn build(&self, vert: &[u32], points: &[i32], tables: &mut Cage) -> Vec<u64> {
+        let Cage { twin, edge, .. } = tables;
+        answered(|answer| sys::build(vert, points, twin, edge, answer))
+    }
 }

@@ -11,7 +11,7 @@ pub use archive::Archive;
 pub use safe_crate::SafeCrate;
 pub use second_program::SecondProgram;
 
-/// The six operations of document 01. Each gives the numbers of its answer:
+/// The operations of documents 01 and 02. Each gives the numbers of its answer:
 /// number, place and values.
 pub trait Operations {
     fn check(&self, cage: &Cage) -> Vec<u64>;
@@ -20,6 +20,8 @@ pub trait Operations {
     fn refine(&self, cage: &Cage, depth: u64, lent: &mut Cage) -> Vec<u64>;
     fn read(&self, file: &[u8], lent: &mut Cage) -> Vec<u64>;
     fn write(&self, cage: &Cage, lent_file: &mut [u8]) -> Vec<u64>;
+    /// Only TWIN and EDGE are lent.
+    fn build(&self, vert: &[u32], points: &[i32], lent: &mut Cage) -> Vec<u64>;
 }
 
 /// The second program's tables, as the host library takes them.

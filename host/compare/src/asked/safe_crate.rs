@@ -10,11 +10,7 @@ pub struct SafeCrate;
 
 impl Operations for SafeCrate {
     fn check(&self, cage: &Cage) -> Vec<u64> {
-        let counts = |found: CageCounts| {
-            let (h, e, f) = (found.halfedges, found.edges, found.triangles);
-            [h, e, f, found.vertices, found.borders]
-        };
-        answer(ryebadger::check(handed(cage)).map(counts))
+        answer(ryebadger::check(handed(cage)).map(cage_numbers))
     }
 
     fn counts(&self, [h, e, v, depth]: [u64; 4]) -> Vec<u64> {
@@ -39,11 +35,22 @@ impl Operations for SafeCrate {
         let length = ryebadger::write(handed(cage), lent_file);
         answer(length.map(|length| [length as u64]))
     }
+
+    fn build(&self, vert: &[u32], points: &[i32], tables: &mut Cage) -> Vec<u64> {
+        let found = ryebadger::build(vert, points, &mut tables.twin, &mut tables.edge);
+        answer(found.map(cage_numbers))
+    }
 }
 
 fn answer<const N: usize>(result: Result<[impl Into<u64>; N], Refusal>) -> Vec<u64> {
     let values = result.map(|values| values.map(Into::into));
     told(values.map_err(|refusal| [refusal.number().into(), refusal.place().into()]))
+}
+
+/// H, E, F, V and B.
+fn cage_numbers(found: CageCounts) -> [u32; 5] {
+    let (h, e, f) = (found.halfedges, found.edges, found.triangles);
+    [h, e, f, found.vertices, found.borders]
 }
 
 fn counts_numbers(counts: LevelCounts) -> [u64; 23] {

@@ -1,5 +1,6 @@
 //! The second program.
 
+use second::build::build;
 use second::cage::Cage;
 use second::check::{check, CageCounts};
 use second::corners::corner_question;
@@ -16,11 +17,7 @@ pub struct SecondProgram;
 
 impl Operations for SecondProgram {
     fn check(&self, cage: &Cage) -> Vec<u64> {
-        let counts = |found: CageCounts| {
-            let (h, e, f) = (found.halfedges, found.edges, found.triangles);
-            [h, e, f, found.vertices, found.borders]
-        };
-        answer(check(cage).map(counts))
+        answer(check(cage).map(cage_numbers))
     }
 
     fn counts(&self, [h, e, v, depth]: [u64; 4]) -> Vec<u64> {
@@ -44,10 +41,21 @@ impl Operations for SecondProgram {
     fn write(&self, cage: &Cage, lent_file: &mut [u8]) -> Vec<u64> {
         answer(write_cage_file(cage, lent_file).map(|length| [length]))
     }
+
+    fn build(&self, vert: &[u32], points: &[i32], tables: &mut Cage) -> Vec<u64> {
+        let found = build(vert, points, [&mut tables.twin, &mut tables.edge]);
+        answer(found.map(cage_numbers))
+    }
 }
 
 fn answer<const N: usize>(result: Result<[u64; N], Refusal>) -> Vec<u64> {
     told(result.map_err(|refusal| [refusal.number.into(), refusal.place]))
+}
+
+/// H, E, F, V and B.
+fn cage_numbers(found: CageCounts) -> [u64; 5] {
+    let (h, e, f) = (found.halfedges, found.edges, found.triangles);
+    [h, e, f, found.vertices, found.borders]
 }
 
 fn counts_numbers(counts: LevelCounts) -> [u64; 23] {
