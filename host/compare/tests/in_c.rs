@@ -1,4 +1,4 @@
-//! The C header and the C example, compiled without a warning; the example's
+//! The C header and the C examples, compiled without a warning; the examples'
 //! lines are the second program's.
 
 use std::path::{Path, PathBuf};
@@ -6,8 +6,10 @@ use std::process::{Command, Output};
 use std::sync::LazyLock;
 
 use compare::{file_of, named, repository, run};
-use second::cage::{COORDINATE_LIMIT, DEPTH_LIMIT, HALFEDGE_LIMIT, MARKER, VERTEX_LIMIT};
+use second::build::build;
+use second::cage::{Cage, COORDINATE_LIMIT, DEPTH_LIMIT, HALFEDGE_LIMIT, MARKER, VERTEX_LIMIT};
 use second::lister::list_levels;
+use second::suite::suite;
 
 const STRICT: [&str; 4] = ["-Wall", "-Wextra", "-Wpedantic", "-Werror"];
 
@@ -27,18 +29,22 @@ fn assert_compiles(command: &mut Command, source: &[u8]) {
     assert!(output.status.success() && said.is_empty(), "{said}");
 }
 
-/// The example, compiled once, and linked with the archive that this test is
-/// linked with.
-static EXAMPLE: LazyLock<PathBuf> = LazyLock::new(|| {
+/// An example of this name, linked with the archive that this test is linked
+/// with.
+fn compiled(name: &str) -> PathBuf {
     let made_here = || repository().join("target/host/libryebadger.a").into();
     let archive = std::env::var_os("RYEBADGER_ARCHIVE").unwrap_or_else(made_here);
-    let program = Path::new(env!("CARGO_TARGET_TMPDIR")).join("example");
-    let source = repository().join("host/example.c");
+    let program = Path::new(env!("CARGO_TARGET_TMPDIR")).join(name);
+    let source = repository().join(format!("host/{name}.c"));
     let mut cc = compiler("CC", "cc");
     cc.args(["-std=c11", "-O2"]).arg(source).arg(archive);
     assert_compiles(cc.arg("-o").arg(&program), &[]);
     program
-});
+}
+
+/// Each compiled once.
+static EXAMPLE: LazyLock<PathBuf> = LazyLock::new(|| compiled("example"));
+static TRIANGLES: LazyLock<PathBuf> = LazyLock::new(|| compiled("triangles"));
 
 /// Runs the example on a file.
 fn run_example(file: &Path, depth: &str) -> Output {
@@ -60,7 +66,7 @@ fn the_header_in_c_and_in_cxx() {
     ];
     let names = [
         "DONE", "SHAPE", "LIMIT", "TWIN", "VERTEX", "UNUSED", "EDGE", "FAN", "POINT", "ROOM",
-        "SHORT", "FIELD", "EXTRA",
+        "SHORT", "FIELD", "EXTRA", "DOUBLED",
     ];
     for (name, number) in limits.into_iter().chain(names.into_iter().zip(0..)) {
         source += &format!("static_assert(RYEBADGER_{name} == {number}u, \"{name}\");\n");
@@ -138,4 +144,79 @@ fn the_example_says_what_is_wrong() {
         run(&mut Command::new(&*EXAMPLE), &[]).status.code(),
         Some(2)
     );
+}
+
+/// Status, standard output and standard error of the example that builds.
+fn run_triangles(text: &str) -> (Option<i32>, String, String) {
+    let output = run(&mut Command::new(&*TRIANGLES), text.as_bytes());
+    let said = |bytes: &[u8]| String::from_utf8_lossy(bytes).into_owned();
+    (
+        output.status.code(),
+        said(&output.stdout),
+        said(&output.stderr),
+    )
+}
+
+/// V and F, the points, and the corners, a line each.
+fn plain_text(cage: &Cage) -> String {
+    let words = |cells: Vec<String>| cells.join(" ");
+    let points = words(cage.points.iter().map(i32::to_string).collect());
+    let corners = words(cage.vert.iter().map(u32::to_string).collect());
+    let (v, f) = (cage.points.len() / 3, cage.vert.len() / 3);
+    format!("{v} {f}\n{points}\n{corners}\n")
+}
+
+/// What the example has to say of a cage's triangles.
+fn judged(cage: &Cage) -> (Option<i32>, String, String) {
+    let (mut twin, mut edge) = (cage.vert.clone(), cage.vert.clone());
+    match build(&cage.vert, &cage.points, [&mut twin, &mut edge]) {
+        Ok(found) => {
+            let (h, e, f) = (found.halfedges, found.edges, found.triangles);
+            let (v, b) = (found.vertices, found.borders);
+            (Some(0), format!("{h} {e} {f} {v} {b}\n"), String::new())
+        }
+        Err(refusal) => (Some(1), String::new(), refusal.line()),
+    }
+}
+
+#[test]
+fn the_example_builds_from_plain_triangles() {
+    let whole = |cage: &Cage| {
+        let lengths = [cage.vert.len(), cage.points.len()];
+        lengths.iter().all(|length| length.is_multiple_of(3))
+    };
+    let mut statuses = [0, 0];
+    for entry in suite().iter().filter(|entry| whole(&entry.cage)).step_by(4) {
+        let told = run_triangles(&plain_text(&entry.cage));
+        assert_eq!(told, judged(&entry.cage), "{}", entry.name);
+        statuses[usize::from(told.0 == Some(1))] += 1;
+    }
+    assert!(statuses[0] > 30 && statuses[1] > 30, "{statuses:?}");
+}
+
+#[test]
+fn the_example_that_builds_says_what_is_wrong() {
+    const EARLY: &str = "the input ends before its last number";
+    const NO_NUMBER: &str = "the input has what is not a number";
+    const RANGE: &str = "a number is out of range for what it stands for";
+    const MORE: &str = "the input goes on after its last number";
+    let told = |last: &str| run_triangles(&format!("3 1\n0 0 0\t8 0 0 0 8 {last}"));
+    let done = (Some(0), "3 3 1 3 3\n".to_string(), String::new());
+    assert_eq!(told("0 0 1 2"), done);
+    assert_eq!(told("0 0 1 +2\r\n"), done);
+    for (last, what) in [
+        ("", EARLY),
+        ("0 0 1", EARLY),
+        ("0 0 1 x", NO_NUMBER),
+        ("0 0 1 2e0", NO_NUMBER),
+        ("0 0 1 000000000000000000000002", NO_NUMBER),
+        ("0 0 1 -2", RANGE),
+        ("0 0 1 4294967296", RANGE),
+        ("0 0 1 99999999999999999999", RANGE),
+        ("2147483648 0 1 2", RANGE),
+        ("0 0 1 2 3", MORE),
+    ] {
+        let line = format!("triangles: {what}\n");
+        assert_eq!(told(last), (Some(2), String::new(), line), "{last}");
+    }
 }
