@@ -42,3 +42,10 @@ void library_read(const std::vector<uint8_t>& file, Tables& lent) {
   ryebadger_read(CELLS(file), CELLS(lent.twin), CELLS(lent.vert), CELLS(lent.edge), CELLS(lent.points), answer);
   expect_done("reading", answer);
 }
+
+Answer library_build(const Soup& soup, Joins& lent) {
+  Answer answer;
+  static_assert(std::tuple_size<Answer>::value == RYEBADGER_CHECK_ANSWER, "building answers as the check does");
+  ryebadger_build(CELLS(soup.vert), CELLS(soup.points), CELLS(lent.twin), CELLS(lent.edge), answer.data());
+  return answer;
+}

@@ -1,4 +1,5 @@
-// The report: the proved library beside other engines, its cost by depth, and its other operations by size.
+// The report: the proved library beside other engines, in refining and in building, its cost by depth, and its other
+// operations by size.
 #include <algorithm>
 #include <cmath>
 #include <cstdio>
@@ -7,13 +8,13 @@
 #include <stdexcept>
 #include <string>
 
+#include "building.h"
 #include "clock.h"
 #include "engines.h"
 #include "library.h"
 
 namespace {
 
-constexpr int kRounds = 15;
 constexpr int kSlowRounds = 3;  // of engines that take most of a second
 
 // Lent tables of the room for full depth and a few cells past it, which are to stay.
@@ -144,16 +145,6 @@ bool print_engines() {
   return print_rows(all, closed_times, open_times);
 }
 
-// Best of the rounds, per call; so many calls a round that the clock is fine enough.
-double best_of_calls(int calls, const std::function<void()>& call) {
-  double best = HUGE_VAL;
-  for (int round = 0; round < kRounds; ++round)
-    best = std::min(best, seconds([&] {
-                      for (int i = 0; i < calls; ++i) call();
-                    }));
-  return best / calls;
-}
-
 void print_depths() {
   std::printf("\nRyebadger by depth, closed cage\n%-38s %10s %10s %10s %7s\n", "", "halfedges", "ms", "ns each", "factor");
   const Cage cage = torus(32);
@@ -203,10 +194,10 @@ int main(int count, char** words) try {
     std::fprintf(stderr, "usage: bench/run [--bars]\n");
     return 2;
   }
-  const bool met = print_engines();
+  const bool refining = print_engines(), building = print_building();
   print_depths();
   print_operations();
-  return bars && !met ? 1 : 0;
+  return bars && !(refining && building) ? 1 : 0;
 } catch (const std::exception& fault) {
   std::fprintf(stderr, "bench/run: %s\n", fault.what());
   return 3;
