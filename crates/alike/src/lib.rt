@@ -27,7 +27,7 @@ pub fn find_firsts(groups: &[u32], labels: &[u32], first: &mut [u32])
 }
 
 // Each item goes in front of its group's chain.
-fn chain(groups: &[u32], labels: &[u32], heads: &mut [u32], before: &mut [u32])
+pub fn chain(groups: &[u32], labels: &[u32], heads: &mut [u32], before: &mut [u32])
     requires { ⌜ Keyed (now groups) (now labels) × (length (now heads) ≡ 4096) × (length (now groups) ≤ length (now before)) ⌝ }
     requires { ⌜ ((g : ℕ) → g < length (now heads) → getD (now heads) g 0 ≡ 0) ⌝ }
     ensures { λ _. ⌜ Ready (now (groups .entry)) (now (labels .entry)) (now (heads .exit)) (now (before .exit)) ⌝ }
@@ -64,7 +64,7 @@ fn tell_groups(
 }
 
 // A chain falls, so of each label the item that is marked last is the group's first.
-fn mark(
+pub fn mark(
     groups: &[u32],
     labels: &[u32],
     before: &[u32],

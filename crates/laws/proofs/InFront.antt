@@ -1,5 +1,5 @@
 -- Cells in front of a list: how a loop copies them there (`copied-more`, `copied-all`, and `Copying` for what such a loop keeps),
--- where they then stand (`part-inFront`), and that longer ones cover them (`inFront-over`). Assumes nothing.
+-- where they then stand (`part-inFront`, `taken-inFront`), and that longer ones cover them (`inFront-over`). Assumes nothing.
 use Prim.Native.Nat.{ℕ, _+_, _-_, _≤_, _<_}
 use mathlib.Core.Path.{_≡_, sym, ap, _∙_}
 use mathlib.Core.List.{List, _++_}
@@ -22,6 +22,9 @@ module _ {A : Type 0} (cells xs : List A) where
 
   pub part-inFront : part (inFront cells xs) 0 (length cells) ≡ cells
   part-inFront = take-append-seam cells (drop (length cells) xs)
+
+  pub taken-inFront : {ys : List A} {n : ℕ} → ys ≡ inFront cells xs → n ≡ length cells → part ys 0 n ≡ cells
+  taken-inFront e q = rw (e, q) part-inFront
 
   pub inFront-over : (more : List A) → length cells ≤ length more → inFront more (inFront cells xs) ≡ inFront more xs
   inFront-over more l =

@@ -1,5 +1,7 @@
 pub mod Opposite
 pub mod Numbering
 pub mod RuleSix
-pub mod FirstPairs
 pub mod Doubles
+pub mod Crossing
+pub mod Joins
+pub mod Renumbered

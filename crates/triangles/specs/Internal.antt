@@ -1,2 +1,2 @@
 -- What only contracts between functions cite.
-pub mod Pairs
+pub mod Joining

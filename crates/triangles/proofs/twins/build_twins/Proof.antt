@@ -1,41 +1,57 @@
--- `build_twins` finds the pairs, and writes TWIN where none is on two halfedges.
+-- `build_twins` takes small corner numbers as they are, and others narrowed.
 use borrow.Author.Needs.{needs}
+use Prim.Native.Nat.{ℕ, _%_, _≤_, _<_}
+use mathlib.Core.Path.{_≡_, sym, ap, ap₂, _∙_}
+use mathlib.Core.List.{List}
 use native.Mathlib.Omega.{arith}
-use lib.ListN.{length}
-use Rattle.laws.proofs.Lowest.{lowest-within}
-use Rattle.triangles.specs.Plain.{doubled}
-use Rattle.triangles.specs.Internal.Pairs.{Found}
-use Rattle.triangles.proofs.Doubles.{undoubled}
+use lib.Dec.{eqb}
+use lib.ListN.{length, take}
+use lib.Seq.{length-take-le, getD-take}
+use Rattle.laws.specs.Parts.{inFront}
+use Rattle.alike.specs.Internal.Narrowed.{Small}
+use Rattle.halfedges.specs.Cage.{cell}
+use Rattle.triangles.specs.Internal.Joining.{Whole}
+use Rattle.triangles.proofs.Renumbered.{doubled-same, twins-same}
 use Rattle.triangles.proofs.twins.build_twins.Statement.{statement}
 use Rattle.triangles.proofs.twins.build_twins.Tie as tie
 
--- once the pairs are found
-found : (c : tie.After-find-pairs) → Found (c .before .before .before .before .args .vert .now) (c .find-pairs .last .1 .0)
-found c =
-    let s = c .before .before .before .before in
-    record { whole = s .pre .0; pairs = c .find-pairs .ensures; room = omega (arith, c .find-pairs .kept .1 .0, s .pre .0 .few) }
+-- once the corners are narrowed: small numbers that are the same where they are
+module _ (c : tie.After-narrow) where
+  abbrev start : tie.Start
+  start = c .before .before .before .before .before .before
 
-slice-aggregate-find-pairs : tie.Need-slice-aggregate-find-pairs
-slice-aggregate-find-pairs c = search needs
+  abbrev vert : List ℕ
+  vert = start .args .vert .now
 
-find-pairs-requires : tie.Need-find-pairs-requires
-find-pairs-requires c κs = search needs
+  abbrev corners : List ℕ
+  corners = take (length vert) (c .narrow .last .1 .0)
 
-slice-aggregate-first-doubled : tie.Need-slice-aggregate-first-doubled
-slice-aggregate-first-doubled c = search needs
+  room : length vert ≤ length (c .narrow .last .1 .0)
+  room = omega (arith, c .narrow .kept .1 .0, start .pre .0 .few)
 
-first-doubled-requires : tie.Need-first-doubled-requires
-first-doubled-requires c κs = search needs
+  long : length corners ≡ length vert
+  long = length-take-le (length vert) (c .narrow .last .1 .0) room
 
-slice-aggregate-write-twins : tie.Need-slice-aggregate-write-twins
-slice-aggregate-write-twins c = search needs
+  corner : (h : ℕ) → h < length vert → cell corners h ≡ cell (c .narrow .last .1 .0) h
+  corner h l = getD-take (length vert) (c .narrow .last .1 .0) h 0 l
 
-write-twins-requires : tie.Need-write-twins-requires
-write-twins-requires c κs =
-    let t = c .before .before in
-    let p = t .before .before .before .before in
-    let s = p .before .before .before .before in
-    (found p, undoubled _ (omega (arith, t .if1 .taken, t .before .first-doubled .ensures)), s .pre .1)
+  whole : Whole corners
+  whole = record { whole = by-three long; few = omega (arith, long, start .pre .0 .few) }
+    where
+      by-three : {n : ℕ} → n ≡ length vert → n % 3 ≡ 0
+      by-three e = rw e (start .pre .0 .whole)
+
+  small : Small corners
+  small = record { each = λ h l. let m : h < length vert = omega (arith, long) in rw (corner h m) (c .narrow .ensures .below h m) }
+
+  same : (g h : ℕ) → g < length vert → h < length vert → eqb (cell corners g) (cell corners h) ≡ eqb (cell vert g) (cell vert h)
+  same g h m l = ap₂ eqb (corner g m) (corner h l) ∙ c .narrow .ensures .same g h m l
+
+are-small-requires : tie.Need-are-small-requires
+are-small-requires c κs = search needs
+
+join-requires : tie.Need-join-requires
+join-requires c κs = let t = c .before in let s = t .before .before .before .before in (s .pre .0, t .before .are-small .ensures (t .if1 .taken), s .pre .1)
 
 same-length : tie.Need-same-length
 same-length c = search needs
@@ -43,23 +59,43 @@ same-length c = search needs
 returns : tie.Need-returns
 returns c = search needs
 
+slice-aggregate-narrow : tie.Need-slice-aggregate-narrow
+slice-aggregate-narrow c = search needs
+
+narrow-requires : tie.Need-narrow-requires
+narrow-requires c κs = search needs
+
+array-share-prefix-small : tie.Need-array-share-prefix-small
+array-share-prefix-small c = search needs
+
+slice-aggregate-join : tie.Need-slice-aggregate-join
+slice-aggregate-join c = sym (long (c .before .before))
+
+join-requires-2 : tie.Need-join-requires-2
+join-requires-2 c κs = let n = c .before .before .before in (whole n, small n, omega (arith, long n, start n .pre .1))
+
+same-length-2 : tie.Need-same-length-2
+same-length-2 c = search needs
+
 returns-2 : tie.Need-returns-2
 returns-2 c =
-    let d = c .before in
-    let s = d .before .before .before .before .before .before .before in
-    let v = s .args .vert .now in
-    (d .first-doubled .ensures, λ l. absurd (c .if1 .left (omega (arith, l, d .first-doubled .ensures, lowest-within (length v) (doubled v)))))
+    let j = c .before .before in
+    let n = j .before .before .before .before in
+    let p = j .join2 .ensures .0 ∙ doubled-same (vert n) (corners n) (start n .pre .0) (long n) (same n) in
+    (p, λ l. j .join2 .ensures .1 (omega (arith, l, long n)) ∙ ap (λ t. inFront t (start n .args .twin .now)) (twins-same (vert n) (corners n) (start n .pre .0) (long n) (same n)))
 
 pub build-twins-spec : {M : Type 1} → statement M
 build-twins-spec =
     tie.close
     (tie.spec
-    slice-aggregate-find-pairs
-    find-pairs-requires
-    slice-aggregate-first-doubled
-    first-doubled-requires
-    slice-aggregate-write-twins
-    write-twins-requires
+    are-small-requires
+    join-requires
     same-length
     returns
+    slice-aggregate-narrow
+    narrow-requires
+    array-share-prefix-small
+    slice-aggregate-join
+    join-requires-2
+    same-length-2
     returns-2)
