@@ -1,12 +1,12 @@
 -- TWIN as it is built, in front of a table (`in-front`). Its checks: what they rely on (`for-vertices`, `for-fans`), and that they are
--- those of VERT (`vertex-same`, `fan-same`). Assumes nothing.
+-- those of VERT (`vertex-told`, `fan-told`). Assumes nothing.
 use Prim.Native.Nat.{ℕ, _%_}
 use mathlib.Core.Path.{_≡_, sym, ap, _∙_}
 use mathlib.Core.List.{List}
 use lib.ListN.{length, take}
 use Rattle.laws.specs.Parts.{inFront}
 use Rattle.laws.proofs.InFront.{part-inFront}
-use Rattle.halfedges.specs.Refusals.{VERTEX, FAN, givenAt}
+use Rattle.halfedges.specs.Refusals.{Verdict, VERTEX, FAN, givenAt}
 use Rattle.tables.specs.Rules.{badVertex}
 use Rattle.tables.specs.Fans.{notOneFan}
 use Rattle.tables.specs.Ruled.{Paired, Placed, Used}
@@ -34,8 +34,8 @@ module _ {twin vert : List ℕ} {v : ℕ} (w : Twinned twin vert v) where
   pub for-fans : Placed twin vert v → Used vert v → ForFans twin vert v
   for-fans p u = record { walkable = record { paired = kept; whole = triangles; few = rw long (w .whole .few) }; placed = p; used = u; long = rw long }
 
-  pub vertex-same : givenAt (length twin) (badVertex twin vert v) VERTEX ≡ givenAt (length vert) (badVertex (twinTable vert) vert v) VERTEX
-  vertex-same = rw (long, w .built)
+  pub vertex-told : {a : Verdict} → a ≡ givenAt (length twin) (badVertex twin vert v) VERTEX → a ≡ givenAt (length vert) (badVertex (twinTable vert) vert v) VERTEX
+  vertex-told e = e ∙ rw (long, w .built)
 
-  pub fan-same : givenAt v (notOneFan twin vert) FAN ≡ givenAt v (notOneFan (twinTable vert) vert) FAN
-  fan-same = rw (w .built)
+  pub fan-told : {a : Verdict} → a ≡ givenAt v (notOneFan twin vert) FAN → a ≡ givenAt v (notOneFan (twinTable vert) vert) FAN
+  fan-told e = e ∙ rw (w .built)

@@ -9,7 +9,7 @@ use Rattle.tables.proofs.Meaning.{placed, used}
 use Rattle.points.specs.Operations.{vertices}
 use Rattle.building.specs.Building.{buildChecks}
 use Rattle.building.specs.Internal.Relied.{builtChecks}
-use Rattle.building.proofs.Built.{for-vertices, for-fans, vertex-same, fan-same}
+use Rattle.building.proofs.Built.{for-vertices, for-fans, vertex-told, fan-told}
 use Rattle.building.proofs.check_built.Statement.{statement}
 use Rattle.building.proofs.check_built.Tie as tie
 
@@ -31,7 +31,7 @@ number-requires c κs = search needs
 
 returns : tie.Need-returns
 unfolding builtChecks buildChecks
-returns c = answered (c .before .before .check-vertices .ensures ∙ vertex-same (c .before .before .before .before .before .pre)) (c .before .number .ensures) _ (c .if1 .taken)
+returns c = answered (vertex-told (c .before .before .before .before .before .pre) (c .before .before .check-vertices .ensures)) (c .before .number .ensures) _ (c .if1 .taken)
 
 check-uses-requires : tie.Need-check-uses-requires
 check-uses-requires c κs = search needs
@@ -44,7 +44,7 @@ unfolding builtChecks buildChecks
 returns-2 c =
     let four = c .before .before .before in
     answered (c .before .before .check-uses .ensures) (c .before .number2 .ensures) _ (c .if2 .taken)
-    ∙ passed-on (four .before .before .check-vertices .ensures ∙ vertex-same (start four .pre)) (four .before .number .ensures) _ (four .if1 .left)
+    ∙ passed-on (vertex-told (start four .pre) (four .before .before .check-vertices .ensures)) (four .before .number .ensures) _ (four .if1 .left)
 
 check-fans-requires : tie.Need-check-fans-requires
 check-fans-requires c κs = let four = c .before .before .before in (for-fans (start four .pre) (places four) (uses c), start four .pre .few)
@@ -57,9 +57,9 @@ unfolding builtChecks buildChecks
 returns-3 c =
     let five = c .before .before .before in
     let four = five .before .before .before in
-    answered (c .before .before .check-fans .ensures ∙ fan-same (start four .pre)) (c .before .number3 .ensures) _ (c .if3 .taken)
+    answered (fan-told (start four .pre) (c .before .before .check-fans .ensures)) (c .before .number3 .ensures) _ (c .if3 .taken)
     ∙ passed-on (five .before .before .check-uses .ensures) (five .before .number2 .ensures) _ (five .if2 .left)
-    ∙ passed-on (four .before .before .check-vertices .ensures ∙ vertex-same (start four .pre)) (four .before .number .ensures) _ (four .if1 .left)
+    ∙ passed-on (vertex-told (start four .pre) (four .before .before .check-vertices .ensures)) (four .before .number .ensures) _ (four .if1 .left)
 
 check-points-requires : tie.Need-check-points-requires
 check-points-requires c κs = search needs
@@ -72,9 +72,9 @@ returns-4 c =
     let four = five .before .before .before in
     c .check-points .ensures
     ∙ given-alone _ _ POINT (λ k. omega arith)
-    ∙ passed-on (seven .before .before .check-fans .ensures ∙ fan-same (start four .pre)) (seven .before .number3 .ensures) _ (seven .if3 .left)
+    ∙ passed-on (fan-told (start four .pre) (seven .before .before .check-fans .ensures)) (seven .before .number3 .ensures) _ (seven .if3 .left)
     ∙ passed-on (five .before .before .check-uses .ensures) (five .before .number2 .ensures) _ (five .if2 .left)
-    ∙ passed-on (four .before .before .check-vertices .ensures ∙ vertex-same (start four .pre)) (four .before .number .ensures) _ (four .if1 .left)
+    ∙ passed-on (vertex-told (start four .pre) (four .before .before .check-vertices .ensures)) (four .before .number .ensures) _ (four .if1 .left)
 
 pub check-built-spec : {M : Type 1} → statement M
 check-built-spec =

@@ -1,7 +1,7 @@
 -- `plan` goes through all checks of the cage, and then the room.
 use borrow.Author.Needs.{needs}
 use mathlib.Core.Path.{sym, _∙_}
-use Rattle.building.proofs.Verdict.{checks-given, room-left}
+use Rattle.building.proofs.Given.{checks-given, room-left}
 use Rattle.building.proofs.plan.Statement.{statement}
 use Rattle.building.proofs.plan.Tie as tie
 

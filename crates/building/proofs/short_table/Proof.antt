@@ -1,5 +1,5 @@
 -- `short_table` goes through the two tables in order.
-use Rattle.building.proofs.Verdict.{twin-short, edge-short, both-roomy}
+use Rattle.building.proofs.Given.{twin-short, edge-short, both-roomy}
 use Rattle.building.proofs.short_table.Statement.{statement}
 use Rattle.building.proofs.short_table.Tie as tie
 

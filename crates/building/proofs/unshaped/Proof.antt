@@ -1,7 +1,7 @@
 -- `unshaped` is 1's test, clause by clause.
 use borrow.Author.Tests.{eq-eqb, ne-eqb}
 use Rattle.building.specs.Building.{unshaped}
-use Rattle.building.proofs.Verdict.{points-whole}
+use Rattle.building.proofs.Given.{points-whole}
 use Rattle.building.proofs.unshaped.Statement.{statement}
 use Rattle.building.proofs.unshaped.Tie as tie
 

@@ -1,4 +1,4 @@
--- Which check of building is its answer, as the code goes. Assumes nothing.
+-- Which check of building is given, as the code goes. Assumes nothing.
 --     shape-given, limit-given, doubled-given, checks-left     1, 2 and 13, and where none of them is given the checks that are left
 --     whole, twinned                                           what is known there
 --     twin-short, edge-short, both-roomy                       9
