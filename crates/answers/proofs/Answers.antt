@@ -1,5 +1,5 @@
--- Every answer fits its cells: of the cage check (`check-fits`), the count question (`counts-fit`), refining (`refine-fits`), the
--- corner question (`corners-fit`), reading (`read-fits`) and writing (`write-fits`). Assumes nothing.
+-- Every answer fits its cells: of the cage check (`check-fits`), building (`build-fits`), the count question (`counts-fit`), refining
+-- (`refine-fits`), the corner question (`corners-fit`), reading (`read-fits`) and writing (`write-fits`). Assumes nothing.
 use Prim.Native.Nat.{ℕ, suc, _+_, _≤_, _<_}
 use mathlib.Core.Path.{_≡_, refl}
 use mathlib.Core.Bool.{Bool, true, false, cond}
@@ -8,7 +8,7 @@ use native.Mathlib.Omega.{arith}
 use lib.Dec.{eqb, leb, ltb}
 use borrow.Author.Tests.{eqb-true}
 use lib.IntN.{ℤ}
-use lib.ListN.{length}
+use lib.ListN.{length, replicate}
 use Rattle.laws.specs.Below.{tabulate, sum}
 use Rattle.laws.proofs.Tests.{by-test}
 use Rattle.laws.proofs.Tabulate.{length-tabulate}
@@ -18,8 +18,8 @@ use Rattle.halfedges.specs.declared.table.HalfedgeTable.{HalfedgeTable}
 use Rattle.halfedges.specs.declared.table.Levels.{Levels}
 use Rattle.halfedges.specs.declared.table.Counted.{Counted}
 use Rattle.halfedges.specs.declared.corners.Corners.{Corners}
-use Rattle.halfedges.specs.Cage.{most-halfedges, most-depth, border, above, E, B}
-use Rattle.halfedges.specs.Refusals.{Verdict, DONE, SHAPE, LIMIT, TWIN, VERTEX, UNUSED, EDGE, FAN, POINT, ROOM, SHORT, FIELD, EXTRA, told, short, whenDone, first, Said, said}
+use Rattle.halfedges.specs.Cage.{most-halfedges, most-vertices, most-depth, border, above, E, B}
+use Rattle.halfedges.specs.Refusals.{Verdict, DONE, SHAPE, LIMIT, TWIN, VERTEX, UNUSED, EDGE, FAN, POINT, ROOM, SHORT, FIELD, EXTRA, DOUBLED, told, short, whenDone, first, Said, said}
 use Rattle.halfedges.specs.Internal.Counts.{AtMost}
 use Rattle.halfedges.specs.Counts.{countsAt, Hs, Es, Vs, seven, levels, noLevels, countShape, aboveLimit, countQuestion, counted}
 use Rattle.halfedges.specs.Corners.{cornerShape, cornerQuestion, cornered}
@@ -30,6 +30,10 @@ use Rattle.tables.specs.Tables.{Tables, countsOf}
 use Rattle.tables.specs.Check.{rules, returned}
 use Rattle.levels.specs.Refining.{shortTables}
 use Rattle.points.specs.Operations.{vertices, cageChecks, checkCage, refineVerdict, refineCage}
+use Rattle.triangles.specs.Plain.{twinTable}
+use Rattle.triangles.proofs.Opposite.{twins-long}
+use Rattle.building.specs.Building.{buildChecks, buildVerdict, buildCage}
+use Rattle.building.proofs.Outcome.{limits}
 use Rattle.cagefile.specs.Fields.{Head, opening, heads, file}
 use Rattle.reading.specs.Reading.{past, fieldChecks, fieldsChecks, HIn, VIn, openingChecks, readVerdict, readFile}
 use Rattle.writing.specs.Writing.{writeVerdict, writeFile}
@@ -73,8 +77,19 @@ cage-small c points depth =
       ),
     )))
 
+-- H, E, F, V and B within the limits, and zeros
+returned-fit : (twin : List ℕ) (v : ℕ) → length twin ≤ most-halfedges → v ≤ most-vertices → Fitting (returned twin v)
+unfolding returned E B
+returned-fit twin v l m =
+    let e = count-at-most (length twin) (above twin) in
+    let b = count-at-most (length twin) (border twin) in
+    (omega arith, (omega arith, (omega arith, (omega arith, (omega arith, tt)))))
+
+zeros-fit : Fitting (replicate 5 0)
+zeros-fit = (omega arith, (omega arith, (omega arith, (omega arith, (omega arith, tt)))))
+
 pub check-fits : (c : Tables) (points : List ℤ) → Fitting (cells (checkCage c points))
-unfolding checkCage said cageChecks returned E B
+unfolding checkCage said cageChecks
 check-fits c points =
     let s = cage-small c points 0 in (
       s .0,
@@ -84,12 +99,48 @@ check-fits c points =
             (λ z.
             let shape = done-passes _ SHAPE _ refl (first-zero (cageChecks c points 0) z) in
             let k = limits-kept (length (c .twin)) (vertices points) 0 (done-passes _ LIMIT _ refl (shape .1) .0) in
-            let e = count-at-most (length (c .twin)) (above (c .twin)) in
-            let b = count-at-most (length (c .twin)) (border (c .twin)) in
-            (omega arith, (omega arith, (omega arith, (omega arith, (omega arith, tt))))))
-            (omega arith, (omega arith, (omega arith, (omega arith, (omega arith, tt))))),
+            returned-fit (c .twin) (vertices points) (k .0) (k .1))
+            zeros-fit,
       ),
     )
+
+-- building: the first of its checks before the room
+build-checks-small : (vert : List ℕ) (points : List ℤ) → Small (first (buildChecks vert points))
+unfolding buildChecks
+build-checks-small vert points =
+    guarded-small _ SHAPE _ refl (omega arith, omega arith)
+    (λ _. guarded-small _ LIMIT _ refl (omega arith, omega arith)
+    (λ l.
+    let k = limits-kept (length vert) (vertices points) 0 l in
+    first-small _ (
+      givenAt-small _ _ DOUBLED (λ h m. (omega arith, omega arith)),
+      (
+        givenAt-small _ _ VERTEX (λ h m. (omega arith, omega arith)),
+        (
+          givenAt-small _ _ UNUSED (λ v m. (omega arith, omega arith)),
+          (
+            givenAt-small _ _ FAN (λ v m. (omega arith, omega arith)),
+            (
+              givenAt-small _ _ POINT (λ i m. (omega arith, omega arith)),
+              tt,
+            ),
+          ),
+        ),
+      ),
+    )))
+
+module _ (vert : List ℕ) (points : List ℤ) (x y : List ℕ) where
+  build-small : Small (buildVerdict vert points x y)
+  unfolding buildVerdict
+  build-small = joined-small (buildChecks vert points) _ (build-checks-small vert points) (λ _. first-small _ (short-small 1 _ _ (omega arith), (short-small 3 _ _ (omega arith), tt)))
+
+  build-done : buildVerdict vert points x y .number ≡ 0 → Fitting (returned (twinTable vert) (vertices points))
+  unfolding buildVerdict
+  build-done z = let k = limits vert points x y (first-zero _ z) in returned-fit (twinTable vert) (vertices points) (rw (twins-long vert) (k .0)) (k .1)
+
+  pub build-fits : Fitting (cells (buildCage vert points x y .answer))
+  unfolding buildCage said
+  build-fits = (build-small .0, (build-small .1, fitting-when (buildVerdict vert points x y) _ _ build-done zeros-fit))
 
 -- counts of which there are seven, and which fit
 record Laid (l : Levels) : Type 0 where

@@ -1,5 +1,5 @@
--- What building answers and leaves: where a check is given (`build-refused`), and where it is done (`told-done`, `writable`,
--- `build-done`). Assumes nothing.
+-- What building answers and leaves: where a check is given (`build-refused`), and where it is done (`told-done`, `limits`,
+-- `writable`, `build-done`). Assumes nothing.
 use Prim.Native.Nat.{ℕ, _≤_}
 use mathlib.Core.Path.{_≡_, refl, sym, ap, _∙_}
 use mathlib.Core.Logic.{_≢_}
@@ -9,7 +9,7 @@ use lib.ListN.{length, replicate}
 use borrow.Author.Tests.{ne-eqb, ltb-false}
 use Rattle.laws.specs.Parts.{inFront}
 use Rattle.halfedges.specs.declared.answer.Answer.{Answer}
-use Rattle.halfedges.specs.Cage.{most-halfedges}
+use Rattle.halfedges.specs.Cage.{most-halfedges, most-vertices}
 use Rattle.halfedges.specs.Refusals.{DONE, SHAPE, LIMIT, ROOM, told, short, first, Said, said, filled}
 use Rattle.halfedges.proofs.Checks.{done-both, done-passes}
 use Rattle.halfedges.proofs.Questions.{limits-kept}
@@ -28,9 +28,9 @@ module _ (vert : List ℕ) (points : List ℤ) (x y : List ℕ) where
     unfolding buildVerdict
     checks-done = done-both (buildChecks vert points) _ d .0
 
-    pub few : length vert ≤ most-halfedges
+    pub limits : (length vert ≤ most-halfedges) × (vertices points ≤ most-vertices)
     unfolding buildChecks
-    few = limits-kept (length vert) (vertices points) 0 (done-passes _ LIMIT _ refl (done-passes _ SHAPE _ refl checks-done .1) .0) .0
+    limits = let k = limits-kept (length vert) (vertices points) 0 (done-passes _ LIMIT _ refl (done-passes _ SHAPE _ refl checks-done .1) .0) in (k .0, k .1)
 
     roomy : (length vert ≤ length x) × (length vert ≤ length y)
     unfolding buildVerdict short
@@ -48,7 +48,7 @@ module _ (vert : List ℕ) (points : List ℤ) (x y : List ℕ) where
       writable =
           record {
             paired = rw b (twins-paired vert (done-undoubled vert points checks-done));
-            few = rw long few;
+            few = rw long (limits .0);
             twin-room = rw long (roomy .0);
             edge-room = rw long (roomy .1);
           }

@@ -4,10 +4,12 @@ ghost use Rattle.halfedges.specs.Counts.{countQuestion};
 ghost use Rattle.halfedges.specs.Corners.{cornerQuestion};
 ghost use Rattle.tables.specs.Tables.{tables};
 ghost use Rattle.points.specs.Operations.{checkCage, refineCage};
+ghost use Rattle.building.specs.Building.{buildCage};
 ghost use Rattle.reading.specs.Reading.{readFile};
 ghost use Rattle.writing.specs.Writing.{writeFile};
 ghost use Rattle.answers.specs.Cells.{cells as Cells·cells, lengthCells, levelCells};
 use answers;
+use building;
 use halfedges::corners;
 use halfedges::table::HalfedgeTable;
 use reading;
@@ -28,6 +30,23 @@ pub extern "C" fn ryebadger_check(
         ≡ Cells·cells (checkCage (tables (now (twin .entry)) (now (vert .entry)) (now (edge .entry))) (now (points .entry))) ⌝ }
 {
     let checked = cage::check_cage(twin, vert, edge, points);
+    *answer = answers::of_check(checked);
+}
+
+// Building TWIN and EDGE from VERT and the points, in front of two lent tables.
+#[no_mangle]
+pub extern "C" fn ryebadger_build(
+    vert: &[u32],
+    points: &[i32],
+    twin: &mut [u32],
+    edge: &mut [u32],
+    answer: &mut [u32; 7],
+)
+    ensures { λ _.
+        let after = buildCage (now (vert .entry)) (now (points .entry)) (now (twin .entry)) (now (edge .entry)) in
+        ⌜ (now (answer .exit) ≡ Cells·cells (after .answer)) × (now (twin .exit) ≡ after .twin) × (now (edge .exit) ≡ after .edge) ⌝ }
+{
+    let checked = building::build(vert, points, twin, edge);
     *answer = answers::of_check(checked);
 }
 

@@ -9,7 +9,7 @@ use Rattle.halfedges.specs.Refusals.{DONE}
 use Rattle.triangles.specs.Plain.{twinTable}
 use Rattle.building.specs.Building.{buildVerdict}
 use Rattle.building.proofs.Built.{in-front}
-use Rattle.building.proofs.Outcome.{few, writable, build-done, told-done, build-refused}
+use Rattle.building.proofs.Outcome.{limits, writable, build-done, told-done, build-refused}
 use Rattle.building.proofs.build_with.Statement.{statement}
 use Rattle.building.proofs.build_with.Tie as tie
 
@@ -25,7 +25,7 @@ module _ (i : tie.Else1) where
   done = told-done _ _ _ _ (plan .plan .result) (plan .plan .ensures .0) (i .before .number .ensures) (i .if1 .left)
 
   fits : length (start .args .vert .now) ≤ length (plan .plan .last .0)
-  fits = omega (arith, few _ _ _ _ done, start .pre, plan .plan .kept .0)
+  fits = omega (arith, limits _ _ _ _ done .0, start .pre, plan .plan .kept .0)
 
   built : take (length (start .args .vert .now)) (plan .plan .last .0) ≡ twinTable (start .args .vert .now)
   built = in-front (start .args .vert .now) (start .args .twins .now) (plan .plan .ensures .1 (sym (i .before .number .ensures) ∙ i .if1 .left))
