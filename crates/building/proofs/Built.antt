@@ -5,7 +5,7 @@ use mathlib.Core.Path.{_≡_, sym, ap, _∙_}
 use mathlib.Core.List.{List}
 use lib.ListN.{length, take}
 use Rattle.laws.specs.Parts.{inFront}
-use Rattle.laws.proofs.InFront.{part-inFront}
+use Rattle.laws.proofs.InFront.{taken-inFront}
 use Rattle.halfedges.specs.Refusals.{Verdict, VERTEX, FAN, givenAt}
 use Rattle.tables.specs.Rules.{badVertex}
 use Rattle.tables.specs.Fans.{notOneFan}
@@ -16,7 +16,7 @@ use Rattle.triangles.proofs.Opposite.{twins-long, twins-paired}
 use Rattle.building.specs.Internal.Relied.{Twinned}
 
 pub in-front : (vert xs : List ℕ) {ys : List ℕ} → ys ≡ inFront (twinTable vert) xs → take (length vert) ys ≡ twinTable vert
-in-front vert xs {ys} e = ap (λ n. take n ys) (sym (twins-long vert)) ∙ ap (take (length (twinTable vert))) e ∙ part-inFront (twinTable vert) xs
+in-front vert xs e = taken-inFront (twinTable vert) xs e (sym (twins-long vert))
 
 module _ {twin vert : List ℕ} {v : ℕ} (w : Twinned twin vert v) where
   kept : Paired twin

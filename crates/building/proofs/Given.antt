@@ -23,7 +23,7 @@ use Rattle.halfedges.proofs.Checks.{is-passed, clean-done, first-refused, first
 use Rattle.halfedges.proofs.Questions.{limits-kept}
 use Rattle.points.specs.Operations.{vertices}
 use Rattle.triangles.specs.Plain.{doubled, Undoubled, twinTable}
-use Rattle.triangles.specs.Internal.Pairs.{Whole}
+use Rattle.triangles.specs.Internal.Joining.{Whole}
 use Rattle.building.specs.Building.{unshaped, buildChecks, buildVerdict}
 use Rattle.building.specs.Internal.Relied.{Twinned, builtChecks}
 

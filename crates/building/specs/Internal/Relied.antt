@@ -8,7 +8,7 @@ use Rattle.halfedges.specs.Cage.{most-halfedges, most-vertices}
 use Rattle.halfedges.specs.Refusals.{Verdict}
 use Rattle.tables.specs.Ruled.{Paired}
 use Rattle.triangles.specs.Plain.{Undoubled, twinTable}
-use Rattle.triangles.specs.Internal.Pairs.{Whole}
+use Rattle.triangles.specs.Internal.Joining.{Whole}
 use Rattle.building.specs.Building.{buildChecks}
 
 -- TWIN is built from VERT, which passes 1, 2 and 13
