@@ -45,10 +45,10 @@ module _ {vert ends : List ℕ} (d : Ended vert ends) where
       }
 
   -- halfedges that are alike have the same ends
-  pub like-ends : (h g : ℕ) → h < length vert → g < length vert → alike vert ends h g ≡ true → (cell vert g ≡ cell vert h) × (cell vert (NEXT g) ≡ cell vert (NEXT h))
+  like-ends : (h g : ℕ) → h < length vert → g < length vert → alike vert ends h g ≡ true → (cell vert g ≡ cell vert h) × (cell vert (NEXT g) ≡ cell vert (NEXT h))
   like-ends h g l m e = (like-group vert ends h g e, sym (end-at g m) ∙ like-label vert ends h g e ∙ end-at h l)
 
-  pub ends-like : (h g : ℕ) → h < length vert → g < length vert → cell vert g ≡ cell vert h → cell vert (NEXT g) ≡ cell vert (NEXT h) → alike vert ends h g ≡ true
+  ends-like : (h g : ℕ) → h < length vert → g < length vert → cell vert g ≡ cell vert h → cell vert (NEXT g) ≡ cell vert (NEXT h) → alike vert ends h g ≡ true
   ends-like h g l m e f = like-both vert ends h g e (end-at g m ∙ f ∙ sym (end-at h l))
 
   pub first-below : (h : ℕ) → h < length vert → firstLike vert ends h ≤ h

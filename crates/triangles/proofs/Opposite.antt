@@ -1,12 +1,11 @@
 -- Twins by their directed pairs of vertices. Assumes nothing.
 --     runs-ends, ends-run              the ends of a halfedge that runs between two vertices
 --     Opposite, opposite, are-twins    g is h's twin: another halfedge, which runs the opposite way
---     turned                           then h is g's
 --     no-twin                          TWIN of a halfedge that has none
 --     twins-long, twin-at              TWIN has a cell for each corner, and what it is
 --     one-runs                         undoubled, a directed pair is on one halfedge at most
 --     twin-is, has-twin                TWIN of a halfedge that has a twin, and what stands in TWIN
---     twins-paired, twins-end          rule 3 is kept, and a twin starts where the halfedge ends
+--     twins-paired                     rule 3 is kept
 use Prim.Native.Nat.{ℕ, _<_}
 use mathlib.Core.Path.{_≡_, sym, ap, _∙_}
 use mathlib.Core.Logic.{_≢_}
@@ -50,7 +49,7 @@ module _ (vert : List ℕ) where
   unfolding twins
   are-twins h g o = rw (ne-eqb g h (o .other)) (ends-run (cell vert (NEXT h)) (cell vert h) g (o .from) (o .to))
 
-  pub turned : {h g : ℕ} → Opposite h g → Opposite g h
+  turned : {h g : ℕ} → Opposite h g → Opposite g h
   turned o = record { other = λ e. o .other (sym e); from = sym (o .to); to = sym (o .from) }
 
   pub no-twin : (h : ℕ) → ((g : ℕ) → g < length vert → twins vert h g ≡ false) → twinOf vert h ≡ marker
@@ -101,9 +100,6 @@ module _ (vert : List ℕ) where
             let o = opposite h (g .0) (g .2) in
             let e = twin-is h (g .0) (g .1) o in
             (rw e (g .1), rw e o)
-
-    pub twins-end : (h : ℕ) → h < length vert → cell (twinTable vert) h ≢ marker → cell vert (cell (twinTable vert) h) ≡ cell vert (NEXT h)
-    twins-end h l n = ap (cell vert) (twin-at h l) ∙ has-twin h (λ q. n (twin-at h l ∙ q)) .1 .from
 
     pub twins-paired : Paired (twinTable vert)
     twins-paired =

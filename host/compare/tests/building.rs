@@ -232,3 +232,29 @@ fn one_wrong_corner_anywhere() {
         }
     }
 }
+
+/// The stack that the header says is enough.
+const STACK: usize = 256 * 1024;
+
+/// A closed cage of as many halfedges as there may be, also under far numbers,
+/// is built on a stack of its own.
+#[test]
+fn a_small_stack_is_enough() {
+    let cage = named("torus-32x16");
+    let far: Vec<u32> = cage
+        .vert
+        .iter()
+        .map(|v| v.wrapping_mul(1_000_003))
+        .collect();
+    let building = std::thread::Builder::new()
+        .stack_size(STACK)
+        .spawn(move || {
+            let (mut twin, mut edge) = (vec![0; cage.vert.len()], vec![0; cage.vert.len()]);
+            let done = ryebadger::build(&cage.vert, &cage.points, &mut twin, &mut edge);
+            let refused = ryebadger::build(&far, &cage.points, &mut twin, &mut edge);
+            (done.is_ok(), refused.map_err(|refusal| refusal.number()))
+        });
+    let (done, refused) = building.unwrap().join().unwrap();
+    assert!(done);
+    assert_eq!(refused.unwrap_err(), 4);
+}
