@@ -18,7 +18,8 @@ use halfedges::table::HalfedgeTable;
 pub fn build_twins(vert: &[u32], twin: &mut [u32]) -> usize
     requires { ⌜ Whole (now vert) × (length (now vert) ≤ length (now twin)) ⌝ }
     ensures { λ r. ⌜ r ≡ lowest (length (now (vert .entry))) (Plain·doubled (now (vert .entry))) ⌝ }
-    ensures { λ r. ⌜ (length (now (vert .entry)) ≤ r → now (twin .exit) ≡ inFront (twinTable (now (vert .entry))) (now (twin .entry))) ⌝ }
+    ensures { λ r.
+        ⌜ (length (now (vert .entry)) ≤ r → now (twin .exit) ≡ inFront (twinTable (now (vert .entry))) (now (twin .entry))) ⌝ }
 {
     if numbers::are_small(vert) {
         return join(vert, twin);
@@ -32,7 +33,8 @@ pub fn build_twins(vert: &[u32], twin: &mut [u32]) -> usize
 fn join(vert: &[u32], twin: &mut [u32]) -> usize
     requires { ⌜ Whole (now vert) × Small (now vert) × (length (now vert) ≤ length (now twin)) ⌝ }
     ensures { λ r. ⌜ r ≡ lowest (length (now (vert .entry))) (Plain·doubled (now (vert .entry))) ⌝ }
-    ensures { λ r. ⌜ (length (now (vert .entry)) ≤ r → now (twin .exit) ≡ inFront (twinTable (now (vert .entry))) (now (twin .entry))) ⌝ }
+    ensures { λ r.
+        ⌜ (length (now (vert .entry)) ≤ r → now (twin .exit) ≡ inFront (twinTable (now (vert .entry))) (now (twin .entry))) ⌝ }
 {
     let mut ends = [0u32; HalfedgeTable::MOST_HALFEDGES];
     list_ends(vert, &mut ends);
@@ -56,7 +58,8 @@ fn list_ends(vert: &[u32], ends: &mut [u32])
 fn join_ends(vert: &[u32], ends: &[u32], twin: &mut [u32]) -> usize
     requires { ⌜ Ended (now vert) (now ends) × (length (now vert) ≤ length (now twin)) ⌝ }
     ensures { λ r. ⌜ r ≡ lowest (length (now (vert .entry))) (Plain·doubled (now (vert .entry))) ⌝ }
-    ensures { λ r. ⌜ (length (now (vert .entry)) ≤ r → now (twin .exit) ≡ inFront (twinTable (now (vert .entry))) (now (twin .entry))) ⌝ }
+    ensures { λ r.
+        ⌜ (length (now (vert .entry)) ≤ r → now (twin .exit) ≡ inFront (twinTable (now (vert .entry))) (now (twin .entry))) ⌝ }
 {
     let mut heads = [0u32; alike::NUMBERS];
     let mut before = [0u32; HalfedgeTable::MOST_HALFEDGES];
@@ -77,7 +80,8 @@ fn join_vertices(
     requires { ⌜ Ended (now vert) (now ends) × Ready (now vert) (now ends) (now heads) (now before) ⌝ }
     requires { ⌜ (4096 ≤ length (now marks)) × (length (now vert) ≤ length (now twin)) ⌝ }
     ensures { λ r. ⌜ r ≡ lowest (length (now (vert .entry))) (Plain·doubled (now (vert .entry))) ⌝ }
-    ensures { λ r. ⌜ (length (now (vert .entry)) ≤ r → now (twin .exit) ≡ inFront (twinTable (now (vert .entry))) (now (twin .entry))) ⌝ }
+    ensures { λ r.
+        ⌜ (length (now (vert .entry)) ≤ r → now (twin .exit) ≡ inFront (twinTable (now (vert .entry))) (now (twin .entry))) ⌝ }
 {
     let mut place = vert.len();
     let mut vertex = 0;
@@ -101,7 +105,8 @@ fn join_corners(
     place: usize,
     twin: &mut [u32],
 ) -> usize
-    requires { ⌜ Ended (now vert) (now ends) × Chain (now vert) (now ends) (now before) vertex head × Marked (now vert) (now ends) vertex (now marks) ⌝ }
+    requires { ⌜ Ended (now vert) (now ends) × Chain (now vert) (now ends) (now before) vertex head
+        × Marked (now vert) (now ends) vertex (now marks) ⌝ }
     requires { ⌜ (4096 ≤ length (now marks)) × (length (now vert) ≤ length (now twin)) ⌝ }
     ensures { λ r. ⌜ Joined (now (vert .entry)) (now (ends .entry)) vertex 0 place (now (twin .entry)) r (now (twin .exit)) ⌝ }
 {

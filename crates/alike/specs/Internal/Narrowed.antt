@@ -1,6 +1,7 @@
 -- Small numbers in place of any.
 use Prim.Native.Nat.{ℕ, _/_, _%_, _<_}
 use mathlib.Core.Path.{_≡_}
+use mathlib.Core.Bool.{Bool}
 use mathlib.Core.List.{List}
 use lib.Dec.{eqb}
 use lib.ListN.{length, getD}
@@ -14,7 +15,11 @@ pub record Halved (numbers : List ℕ) (n : ℕ) (upper low : List ℕ) : Type 0
   pub before : (k : ℕ) → k < n → getD upper k 0 ≡ getD numbers k 0 / 4096
   pub last : (k : ℕ) → k < n → getD low k 0 ≡ getD numbers k 0 % 4096
 
+-- the numbers at j and k are the same
+abbrev pub sameAt : List ℕ → ℕ → ℕ → Bool
+sameAt numbers j k = eqb (getD numbers j 0) (getD numbers k 0)
+
 -- small numbers that are the same exactly where the numbers are
 pub record Narrowed (numbers small : List ℕ) : Type 0 where
   pub below : (k : ℕ) → k < length numbers → getD small k 0 < 4096
-  pub same : (j k : ℕ) → j < length numbers → k < length numbers → eqb (getD small j 0) (getD small k 0) ≡ eqb (getD numbers j 0) (getD numbers k 0)
+  pub same : (j k : ℕ) → j < length numbers → k < length numbers → sameAt small j k ≡ sameAt numbers j k
