@@ -123,7 +123,7 @@ void ryebadger_write(const uint32_t *twin, size_t twin_length, const uint32_t *v
  * lent tables. With VERT and the points they are a cage that the check accepts, and the values are the check's. Two
  * different halfedges are twins exactly when they run between the same two vertices the opposite way, and edges are
  * numbered in the order of their lowest halfedges. Needed is H in each lent table; cells past that are untouched. It takes
- * less than 256 KB of stack, and time that goes by H alone. */
+ * less than 256 KB of stack, and time that goes by H and V, whatever the numbers are. */
 void ryebadger_build(const uint32_t *vert, size_t vert_length, const int32_t *points, size_t points_length,
                      uint32_t *lent_twin, size_t lent_twin_length, uint32_t *lent_edge, size_t lent_edge_length,
                      uint32_t answer[RYEBADGER_CHECK_ANSWER]);

@@ -11,15 +11,15 @@ use native.Mathlib.Omega.{arith}
 use lib.ListN.{length, getD, set, take}
 use lib.Seq.{getD-set-same, getD-set-other, getD-take, length-take-le}
 use Rattle.laws.proofs.Tests.{same-eqb}
-use Rattle.alike.specs.Internal.Alike.{alike, firstLike, Firsts, Keyed}
+use Rattle.alike.specs.Internal.Alike.{bound, alike, firstLike, Firsts, Keyed}
 use Rattle.alike.specs.Internal.Narrowed.{Halved, Narrowed}
 use Rattle.alike.proofs.Firsts.{like-group, like-label, like-both, first-like, first-least}
 
-pub halved-on : (numbers : List ℕ) (n : ℕ) (upper low : List ℕ) → n < length upper → n < length low → Halved numbers n upper low → Halved numbers (n + 1) (set upper n (getD numbers n 0 / 4096)) (set low n (getD numbers n 0 % 4096))
+pub halved-on : (numbers : List ℕ) (n : ℕ) (upper low : List ℕ) → n < length upper → n < length low → Halved numbers n upper low → Halved numbers (n + 1) (set upper n (getD numbers n 0 / bound)) (set low n (getD numbers n 0 % bound))
 halved-on numbers n upper low lu ll h =
     record {
-      before = λ k l. on upper (λ i. getD numbers i 0 / 4096) lu (h .before) k (omega arith) (ℕ-discrete k n);
-      last = λ k l. on low (λ i. getD numbers i 0 % 4096) ll (h .last) k (omega arith) (ℕ-discrete k n);
+      before = λ k l. on upper (λ i. getD numbers i 0 / bound) lu (h .before) k (omega arith) (ℕ-discrete k n);
+      last = λ k l. on low (λ i. getD numbers i 0 % bound) ll (h .last) k (omega arith) (ℕ-discrete k n);
     }
   where
     on : (cells : List ℕ) (f : ℕ → ℕ) → n < length cells → ((k : ℕ) → k < n → getD cells k 0 ≡ f k) → (k : ℕ) → k ≤ n → Dec (k ≡ n) → getD (set cells n (f n)) k 0 ≡ f k
@@ -32,7 +32,7 @@ GoesBy n cells numbers =
     (j k : ℕ) → j < n → k < n → (getD cells j 0 ≡ getD cells k 0 → getD numbers j 0 ≡ getD numbers k 0) × (getD numbers j 0 ≡ getD numbers k 0 → getD cells j 0 ≡ getD cells k 0)
 
 -- groups that go by what stands before the last digit, and the last digit as label
-module _ (numbers upper low groups : List ℕ) (h : Halved numbers (length numbers) upper low) (few : length numbers ≤ 4096) (lg : length numbers ≤ length groups) (ll : length numbers ≤ length low) (below : (k : ℕ) → k < length numbers → getD groups k 0 < 4096) (by-upper : GoesBy (length numbers) groups upper) where
+module _ (numbers upper low groups : List ℕ) (h : Halved numbers (length numbers) upper low) (few : length numbers ≤ bound) (lg : length numbers ≤ length groups) (ll : length numbers ≤ length low) (below : (k : ℕ) → k < length numbers → getD groups k 0 < bound) (by-upper : GoesBy (length numbers) groups upper) where
   abbrev n : ℕ
   n = length numbers
 
@@ -48,7 +48,7 @@ module _ (numbers upper low groups : List ℕ) (h : Halved numbers (length numbe
   group : {k : ℕ} → k < n → getD g k 0 ≡ getD groups k 0
   group {k} l = getD-take n groups k 0 l
 
-  label : {k : ℕ} → k < n → getD d k 0 ≡ getD numbers k 0 % 4096
+  label : {k : ℕ} → k < n → getD d k 0 ≡ getD numbers k 0 % bound
   label {k} l = getD-take n low k 0 l ∙ h .last k l
 
   pub keyed-digits : Keyed g d
@@ -69,8 +69,8 @@ module _ (numbers upper low groups : List ℕ) (h : Halved numbers (length numbe
   alike-number : (j k : ℕ) → j < n → k < n → getD numbers j 0 ≡ getD numbers k 0 → alike g d k j ≡ true
   alike-number j k lj lk e =
       like-both g d k j
-      (group lj ∙ by-upper j k lj lk .1 (h .before j lj ∙ ap (λ x. x / 4096) e ∙ sym (h .before k lk)) ∙ sym (group lk))
-      (label lj ∙ ap (λ x. x % 4096) e ∙ sym (label lk))
+      (group lj ∙ by-upper j k lj lk .1 (h .before j lj ∙ ap (λ x. x / bound) e ∙ sym (h .before k lk)) ∙ sym (group lk))
+      (label lj ∙ ap (λ x. x % bound) e ∙ sym (label lk))
 
   like : (k : ℕ) → k < n → alike g d k (firstLike g d k) ≡ true
   like k l = first-like g d k (rw long l)

@@ -4,31 +4,28 @@
 ghost use Prim.Native.Nat.{ℕ, _≤_, _<_};
 ghost use mathlib.Core.Path.{_≡_};
 ghost use lib.ListN.{length, getD};
-ghost use Rattle.alike.specs.Internal.Alike.{Firsts, Keyed, Ready, Chain, Marked, Told};
+ghost use Rattle.alike.specs.Internal.Alike.{bound, Firsts, Keyed, Ready, Chain, Marked, Told};
 
 pub mod numbers;
 
-// Every group and every label is below this number.
-pub const NUMBERS: usize = 4096;
-
-// The most items.
-pub const MOST_ITEMS: usize = 6144;
+// Every group, every label and every item is below this number.
+pub const BOUND: usize = 4096;
 
 // For each item the first that is like it.
 pub fn find_firsts(groups: &[u32], labels: &[u32], first: &mut [u32])
     requires { ⌜ Keyed (now groups) (now labels) × (length (now groups) ≤ length (now first)) ⌝ }
     ensures { λ _. ⌜ Firsts (now (groups .entry)) (now (labels .entry)) (now (first .exit)) ⌝ }
 {
-    let mut heads = [0u32; NUMBERS];
-    let mut before = [0u32; MOST_ITEMS];
+    let mut heads = [0u32; BOUND];
+    let mut before = [0u32; BOUND];
     chain(groups, labels, &mut heads, &mut before);
-    let mut marks = [0u32; NUMBERS];
+    let mut marks = [0u32; BOUND];
     tell_groups(groups, labels, &heads, &before, &mut marks, first);
 }
 
 // Each item goes in front of its group's chain.
 pub fn chain(groups: &[u32], labels: &[u32], heads: &mut [u32], before: &mut [u32])
-    requires { ⌜ Keyed (now groups) (now labels) × (length (now heads) ≡ 4096) × (length (now groups) ≤ length (now before)) ⌝ }
+    requires { ⌜ Keyed (now groups) (now labels) × (length (now heads) ≡ bound) × (length (now groups) ≤ length (now before)) ⌝ }
     requires { ⌜ ((g : ℕ) → g < length (now heads) → getD (now heads) g 0 ≡ 0) ⌝ }
     ensures { λ _. ⌜ Ready (now (groups .entry)) (now (labels .entry)) (now (heads .exit)) (now (before .exit)) ⌝ }
 {
@@ -51,7 +48,7 @@ fn tell_groups(
     first: &mut [u32],
 )
     requires { ⌜ Ready (now groups) (now labels) (now heads) (now before) ⌝ }
-    requires { ⌜ (4096 ≤ length (now marks)) × (length (now groups) ≤ length (now first)) ⌝ }
+    requires { ⌜ (bound ≤ length (now marks)) × (length (now groups) ≤ length (now first)) ⌝ }
     ensures { λ _. ⌜ Firsts (now (groups .entry)) (now (labels .entry)) (now (first .exit)) ⌝ }
 {
     let mut group = 0;
@@ -72,7 +69,7 @@ pub fn mark(
     head: usize,
     marks: &mut [u32],
 )
-    requires { ⌜ Chain (now groups) (now labels) (now before) group head × (4096 ≤ length (now marks)) ⌝ }
+    requires { ⌜ Chain (now groups) (now labels) (now before) group head × (bound ≤ length (now marks)) ⌝ }
     ensures { λ _. ⌜ Marked (now (groups .entry)) (now (labels .entry)) group (now (marks .exit)) ⌝ }
 {
     let mut end = head;
@@ -95,7 +92,7 @@ fn tell(
     first: &mut [u32],
 )
     requires { ⌜ Chain (now groups) (now labels) (now before) group head × Marked (now groups) (now labels) group (now marks) ⌝ }
-    requires { ⌜ (4096 ≤ length (now marks)) × (length (now groups) ≤ length (now first)) ⌝ }
+    requires { ⌜ (bound ≤ length (now marks)) × (length (now groups) ≤ length (now first)) ⌝ }
     ensures { λ _. ⌜ Told (now (groups .entry)) (now (labels .entry)) group (now (first .entry)) (now (first .exit)) ⌝ }
 {
     let mut end = head;

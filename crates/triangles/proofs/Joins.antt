@@ -15,7 +15,7 @@ use lib.Seq.{ext-getD, getD-set-same, getD-set-other, getD-append-add, getD-drop
 use Rattle.laws.specs.Below.{lowest}
 use Rattle.laws.specs.Parts.{inFront}
 use Rattle.laws.proofs.Parts.{length-inFront}
-use Rattle.alike.specs.Internal.Alike.{firstLike, Chain, Marked}
+use Rattle.alike.specs.Internal.Alike.{bound, firstLike, Chain, Marked}
 use Rattle.alike.proofs.Chains.{At, past-head, item-below, none-between}
 use Rattle.halfedges.specs.Cage.{NEXT, PREV, cell}
 use Rattle.halfedges.proofs.Triangle.{next-prev, prev-next, prev-below, next-below}
@@ -129,7 +129,7 @@ module _ {vert ends : List ℕ} (d : Ended vert ends) where
 
   -- ---- all vertices
 
-  module _ {place : ℕ} {twin₀ twin : List ℕ} (b : Built vert ends 4096 place twin₀ twin) where
+  module _ {place : ℕ} {twin₀ twin : List ℕ} (b : Built vert ends bound place twin₀ twin) where
     pub built-place : place ≡ lowest (length vert) (doubled vert)
     built-place = lowest-place d place (b .one) (λ k l. b .least k l (d .small .each k l))
 

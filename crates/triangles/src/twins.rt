@@ -5,7 +5,7 @@ ghost use mathlib.Core.Path.{_≡_};
 ghost use lib.ListN.{length, set};
 ghost use Rattle.laws.specs.Below.{lowest};
 ghost use Rattle.laws.specs.Parts.{inFront};
-ghost use Rattle.alike.specs.Internal.Alike.{Ready, Chain, Marked};
+ghost use Rattle.alike.specs.Internal.Alike.{bound, Ready, Chain, Marked};
 ghost use Rattle.alike.specs.Internal.Narrowed.{Small};
 ghost use Rattle.halfedges.specs.Cage.{PREV, cell};
 ghost use Rattle.triangles.specs.Plain.{doubled as Plain·doubled, twinTable};
@@ -61,10 +61,10 @@ fn join_ends(vert: &[u32], ends: &[u32], twin: &mut [u32]) -> usize
     ensures { λ r.
         ⌜ (length (now (vert .entry)) ≤ r → now (twin .exit) ≡ inFront (twinTable (now (vert .entry))) (now (twin .entry))) ⌝ }
 {
-    let mut heads = [0u32; alike::NUMBERS];
+    let mut heads = [0u32; alike::BOUND];
     let mut before = [0u32; HalfedgeTable::MOST_HALFEDGES];
     alike::chain(vert, ends, &mut heads, &mut before);
-    let mut marks = [0u32; alike::NUMBERS];
+    let mut marks = [0u32; alike::BOUND];
     join_vertices(vert, ends, &heads, &before, &mut marks, twin)
 }
 
@@ -78,7 +78,7 @@ fn join_vertices(
     twin: &mut [u32],
 ) -> usize
     requires { ⌜ Ended (now vert) (now ends) × Ready (now vert) (now ends) (now heads) (now before) ⌝ }
-    requires { ⌜ (4096 ≤ length (now marks)) × (length (now vert) ≤ length (now twin)) ⌝ }
+    requires { ⌜ (bound ≤ length (now marks)) × (length (now vert) ≤ length (now twin)) ⌝ }
     ensures { λ r. ⌜ r ≡ lowest (length (now (vert .entry))) (Plain·doubled (now (vert .entry))) ⌝ }
     ensures { λ r.
         ⌜ (length (now (vert .entry)) ≤ r → now (twin .exit) ≡ inFront (twinTable (now (vert .entry))) (now (twin .entry))) ⌝ }
@@ -107,7 +107,7 @@ fn join_corners(
 ) -> usize
     requires { ⌜ Ended (now vert) (now ends) × Chain (now vert) (now ends) (now before) vertex head
         × Marked (now vert) (now ends) vertex (now marks) ⌝ }
-    requires { ⌜ (4096 ≤ length (now marks)) × (length (now vert) ≤ length (now twin)) ⌝ }
+    requires { ⌜ (bound ≤ length (now marks)) × (length (now vert) ≤ length (now twin)) ⌝ }
     ensures { λ r. ⌜ Joined (now (vert .entry)) (now (ends .entry)) vertex 0 place (now (twin .entry)) r (now (twin .exit)) ⌝ }
 {
     let mut lowest = place;
@@ -130,7 +130,7 @@ fn join_corner(
     twin: &mut [u32],
 ) -> usize
     requires { ⌜ Ended (now vert) (now ends) × (halfedge < length (now vert)) ⌝ }
-    requires { ⌜ (4096 ≤ length (now marks)) × (length (now vert) ≤ length (now twin)) ⌝ }
+    requires { ⌜ (bound ≤ length (now marks)) × (length (now vert) ≤ length (now twin)) ⌝ }
     ensures { λ r. ⌜ Lower (cell (now (marks .entry)) (cell (now (ends .entry)) halfedge)) halfedge place r ⌝ }
     ensures { λ _.
         ⌜ now (twin .exit) ≡ set (now (twin .entry)) (PREV halfedge)

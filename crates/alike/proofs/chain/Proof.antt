@@ -4,7 +4,7 @@ use Prim.Native.Nat.{ℕ, _-_, _≤_, _<_}
 use mathlib.Core.Path.{_≡_, _∙_}
 use native.Mathlib.Omega.{arith}
 use lib.ListN.{length, length-set, getD}
-use Rattle.alike.specs.Internal.Alike.{Chained}
+use Rattle.alike.specs.Internal.Alike.{bound, Chained}
 use Rattle.alike.proofs.Chains.{chained-none, chained-on}
 use Rattle.alike.proofs.chain.Statement.{statement}
 use Rattle.alike.proofs.chain.Tie as tie
@@ -21,7 +21,7 @@ module _ (c : tie.In-loop Inv-loop μ-loop) where
   abbrev group : ℕ
   group = getD (c .before .before .args .groups .now) (c .before .loop .item) 0
 
-  small : group < 4096
+  small : group < bound
   small = c .before .before .pre .0 .0 .group-below (c .before .loop .item) (c .loop-test .taken)
 
   inside : group < length (c .before .loop .heads)

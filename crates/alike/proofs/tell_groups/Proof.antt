@@ -5,7 +5,7 @@ use mathlib.Core.Path.{_≡_, _∙_}
 use native.Mathlib.Nat.{not-suc-le-zero}
 use native.Mathlib.Omega.{arith}
 use lib.ListN.{length, getD}
-use Rattle.alike.specs.Internal.Alike.{Chain}
+use Rattle.alike.specs.Internal.Alike.{bound, Chain}
 use Rattle.alike.proofs.Chains.{chain-of, head-below}
 use Rattle.alike.proofs.Walks.{Groups, groups-on}
 use Rattle.alike.proofs.tell_groups.Statement.{statement}
@@ -13,7 +13,7 @@ use Rattle.alike.proofs.tell_groups.Tie as tie
 
 abbrev Inv-loop : tie.InvT-loop
 Inv-loop groups labels heads before marks₀ first₀ group₀ marks first group =
-    (length marks ≡ length marks₀) × (length first ≡ length first₀) × (group ≤ 4096) × Groups groups labels group first
+    (length marks ≡ length marks₀) × (length first ≡ length first₀) × (group ≤ bound) × Groups groups labels group first
 
 abbrev μ-loop : tie.MeasureT-loop
 μ-loop groups labels heads before marks₀ first₀ group₀ marks first group = length heads - group

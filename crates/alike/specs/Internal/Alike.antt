@@ -8,6 +8,10 @@ use lib.ListN.{length, getD}
 use Rattle.laws.specs.Below.{lowest}
 use Rattle.alike.specs.Internal.Reach.{reach}
 
+-- every group, every label and every item is below this number
+abbrev pub bound : ℕ
+bound = 4096
+
 -- item j is in group g
 abbrev pub inGroup : List ℕ → ℕ → ℕ → Bool
 inGroup groups g j = eqb (getD groups j 0) g
@@ -27,9 +31,9 @@ pub record Firsts (groups labels first : List ℕ) : Type 0 where
 -- what is asked of groups and labels
 pub record Keyed (groups labels : List ℕ) : Type 0 where
   pub long : length labels ≡ length groups
-  pub few : length groups ≤ 6144
-  pub group-below : (k : ℕ) → k < length groups → getD groups k 0 < 4096
-  pub label-below : (k : ℕ) → k < length groups → getD labels k 0 < 4096
+  pub few : length groups ≤ bound
+  pub group-below : (k : ℕ) → k < length groups → getD groups k 0 < bound
+  pub label-below : (k : ℕ) → k < length groups → getD labels k 0 < bound
 
 -- the first n items are chained: each group has its highest item, and each item the next lower one of its group, as one past its number,
 -- 0 where there is none
@@ -40,7 +44,7 @@ pub record Chained (groups : List ℕ) (n : ℕ) (heads before : List ℕ) : Typ
 -- all items are, with a cell for each group and each item
 pub record Ready (groups labels heads before : List ℕ) : Type 0 where
   pub keyed : Keyed groups labels
-  pub buckets : length heads ≡ 4096
+  pub buckets : length heads ≡ bound
   pub room : length groups ≤ length before
   pub chained : Chained groups (length groups) heads before
 

@@ -7,11 +7,12 @@ use native.Mathlib.Nat.{not-suc-le-zero}
 use native.Mathlib.Decide.{ℕ-discrete}
 use native.Mathlib.Omega.{arith}
 use lib.ListN.{getD}
+use Rattle.alike.specs.Internal.Alike.{bound}
 use Rattle.alike.proofs.numbers.are_small.Statement.{statement}
 use Rattle.alike.proofs.numbers.are_small.Tie as tie
 
 abbrev Inv-loop : tie.InvT-loop
-Inv-loop numbers place₀ place = (k : ℕ) → k < place → getD numbers k 0 < 4096
+Inv-loop numbers place₀ place = (k : ℕ) → k < place → getD numbers k 0 < bound
 
 abbrev μ-loop : tie.MeasureT-loop
 μ-loop numbers place₀ place = lib.ListN.length numbers - place
@@ -37,7 +38,7 @@ loop-less c = search needs
 loop-again : tie.Need-loop-again Inv-loop μ-loop
 loop-again c = λ k l. by k (omega arith) (ℕ-discrete k (c .before .before .before .loop .place))
   where
-    by : (k : ℕ) → k ≤ c .before .before .before .loop .place → Dec (k ≡ c .before .before .before .loop .place) → getD (c .before .before .before .before .args .numbers .now) k 0 < 4096
+    by : (k : ℕ) → k ≤ c .before .before .before .loop .place → Dec (k ≡ c .before .before .before .loop .place) → getD (c .before .before .before .before .args .numbers .now) k 0 < bound
     by k l (yes e) = rw e (omega (arith, c .if1 .left))
     by k l (no e) = c .before .before .before .loop .inv k (omega (arith, e))
 

@@ -7,6 +7,7 @@ use native.Mathlib.Omega.{arith}
 use lib.ListN.{length, getD, take}
 use lib.Seq.{length-take-le, getD-take}
 use borrow.Author.Tests.{eq-eqb, eqb-true}
+use Rattle.alike.specs.Internal.Alike.{bound}
 use Rattle.alike.proofs.Digits.{GoesBy, keyed-digits, firsts-narrow}
 use Rattle.alike.proofs.numbers.narrow.Statement.{statement}
 use Rattle.alike.proofs.numbers.narrow.Tie as tie
@@ -19,7 +20,7 @@ module _ (c : tie.After-split) where
   abbrev numbers : List ℕ
   numbers = start .args .numbers .now
 
-  few : length numbers ≤ 4096
+  few : length numbers ≤ bound
   few = start .pre .0
 
   upper-long : length numbers ≤ length (c .split .last .1 .0)
@@ -28,7 +29,7 @@ module _ (c : tie.After-split) where
   low-long : length numbers ≤ length (c .split .last .1 .1 .0)
   low-long = omega (arith, c .split .kept .1 .1 .0, few)
 
-  upper-small : (k : ℕ) → k < length numbers → getD (c .split .last .1 .0) k 0 / 4096 < 4096
+  upper-small : (k : ℕ) → k < length numbers → getD (c .split .last .1 .0) k 0 / bound < bound
   upper-small k l = omega (arith, c .split .ensures .before k l, c .before .before .before .before .shared-slice-known .given k)
 
 -- once what stands before the last digit is narrowed
@@ -42,7 +43,7 @@ module _ (c : tie.After-narrow-upper) where
   in-upper : {k : ℕ} → k < length (numbers apart) → k < length (take (length (numbers apart)) (apart .split .last .1 .0))
   in-upper l = rw (length-take-le _ _ (upper-long apart)) l
 
-  below : (k : ℕ) → k < length (numbers apart) → getD (c .narrow-upper .last .1 .0) k 0 < 4096
+  below : (k : ℕ) → k < length (numbers apart) → getD (c .narrow-upper .last .1 .0) k 0 < bound
   below k l = c .narrow-upper .ensures .below k (in-upper l)
 
   by-upper : GoesBy (length (numbers apart)) (c .narrow-upper .last .1 .0) (apart .split .last .1 .0)

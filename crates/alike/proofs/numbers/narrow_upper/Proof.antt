@@ -6,6 +6,7 @@ use mathlib.Core.List.{List}
 use native.Mathlib.Omega.{arith}
 use lib.ListN.{length, getD}
 use lib.Seq.{length-take-le}
+use Rattle.alike.specs.Internal.Alike.{bound}
 use Rattle.alike.proofs.Digits.{GoesBy, keyed-digits, firsts-narrow}
 use Rattle.alike.proofs.numbers.narrow_upper.Statement.{statement}
 use Rattle.alike.proofs.numbers.narrow_upper.Tie as tie
@@ -24,7 +25,7 @@ module _ (c : tie.After-split) where
   low-long : length numbers ≤ length (c .split .last .1 .1 .0)
   low-long = omega (arith, c .split .kept .1 .1 .0, start .pre .0 .0)
 
-  below : (k : ℕ) → k < length numbers → getD (c .split .last .1 .0) k 0 < 4096
+  below : (k : ℕ) → k < length numbers → getD (c .split .last .1 .0) k 0 < bound
   below k l = omega (arith, c .split .ensures .before k l, start .pre .1 k l)
 
   itself : GoesBy (length numbers) (c .split .last .1 .0) (c .split .last .1 .0)

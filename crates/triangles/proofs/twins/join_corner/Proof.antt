@@ -4,6 +4,7 @@ use Prim.Native.Nat.{_<_}
 use mathlib.Core.Path.{refl}
 use native.Mathlib.Omega.{arith}
 use lib.ListN.{length, set}
+use Rattle.alike.specs.Internal.Alike.{bound}
 use Rattle.halfedges.specs.Cage.{NEXT, PREV, cell}
 use Rattle.halfedges.proofs.Triangle.{next-below, prev-below}
 use Rattle.triangles.specs.Internal.Joining.{crossing}
@@ -19,10 +20,10 @@ module _ (p : tie.After-previous) where
   inside : p .previous .result < length (start .args .vert .now)
   inside = omega (arith, p .previous .ensures, prev-below (start .pre .0 .0 .whole .whole) (start .pre .0 .1))
 
-  small : cell (start .args .vert .now) (p .previous .result) < 4096
+  small : cell (start .args .vert .now) (p .previous .result) < bound
   small = start .pre .0 .0 .small .each (p .previous .result) inside
 
-  end-small : cell (start .args .ends .now) (start .args .halfedge) < 4096
+  end-small : cell (start .args .ends .now) (start .args .halfedge) < bound
   end-small =
       let l = start .pre .0 .1 in
       omega (arith, end-at (start .pre .0 .0) (start .args .halfedge) l, start .pre .0 .0 .small .each (NEXT (start .args .halfedge)) (next-below (start .pre .0 .0 .whole .whole) l))

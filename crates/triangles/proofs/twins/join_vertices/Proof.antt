@@ -4,7 +4,7 @@ use Prim.Native.Nat.{_-_, _≤_, _<_}
 use mathlib.Core.Path.{_≡_, sym, _∙_}
 use native.Mathlib.Omega.{arith}
 use lib.ListN.{length, getD}
-use Rattle.alike.specs.Internal.Alike.{Chain}
+use Rattle.alike.specs.Internal.Alike.{bound, Chain}
 use Rattle.alike.proofs.Chains.{chain-of, head-below}
 use Rattle.triangles.proofs.Doubles.{undoubled}
 use Rattle.triangles.proofs.Joins.{Built, built-start, built-on, built-place, built-twins}
@@ -77,7 +77,7 @@ returns : tie.Need-returns Inv-loop μ-loop
 returns c =
     let s = c .before .before .before .before .before .before .before .before in
     let i = c .before .loop in
-    let e : i .vertex ≡ 4096 = omega (arith, s .pre .0 .1 .buckets, c .loop-test .left, i .inv .2) in
+    let e : i .vertex ≡ bound = omega (arith, s .pre .0 .1 .buckets, c .loop-test .left, i .inv .2) in
     let b = rw e at (i .inv .3) in
     let p = built-place (s .pre .0 .0) b in
     (p, λ l. built-twins (s .pre .0 .0) b (undoubled _ (omega (arith, l, p))) (i .inv .1) (s .pre .1 .1))
