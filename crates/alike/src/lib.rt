@@ -1,6 +1,6 @@
 // Items in groups, each with a label, and for each item the first that is like it: in the same group, with the same label. The items
-// of a group are chained, and along a chain a table has, for each label, the first item that was met. Each item is met three times,
-// whatever the numbers are. An item k is chained as k + 1, and 0 ends a chain.
+// of a group are chained from the last to the first, and along the chain a table keeps, for each label, the item that was met last.
+// Each item is met three times, whatever the numbers are. An item k is chained as k + 1, and 0 ends a chain.
 ghost use Prim.Native.Nat.{ℕ, _≤_, _<_};
 ghost use mathlib.Core.Path.{_≡_};
 ghost use lib.ListN.{length, getD};
