@@ -45,4 +45,5 @@ int main(int argc, char **argv) {
     for (unsigned level = 0; level <= depth; level++)
         printf("%u %u %u %u\n", level, answer[RYEBADGER_AT_H + level], answer[RYEBADGER_AT_E + level],
                answer[RYEBADGER_AT_V + level]);
+    end_if(fflush(stdout) != 0, "standard output cannot be written");
 }

@@ -34,4 +34,5 @@ int main(void) {
     ryebadger_build(vert, halfedges, points, coordinates, /* into */ twin, halfedges, edge, halfedges, answer);
     if (answer[0] != RYEBADGER_DONE) fprintf(stderr, "refused %u %u\n", answer[0], answer[1]), exit(1);
     printf("%u %u %u %u %u\n", answer[2], answer[3], answer[4], answer[5], answer[6]);
+    end_if(fflush(stdout) != 0, "standard output cannot be written");
 }

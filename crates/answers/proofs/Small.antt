@@ -11,6 +11,7 @@ use lib.ListN.{getD}
 use borrow.Author.Tests.{eqb-true}
 use Rattle.laws.specs.Below.{tabulate, any, lowest}
 use Rattle.laws.proofs.Tests.{by-test}
+use Rattle.laws.proofs.Lowest.{lowest-within}
 use Rattle.halfedges.specs.Refusals.{Verdict, DONE, given, givenAt, whenDone, first}
 use Rattle.halfedges.proofs.Checks.{first-refused-before, first-more, first-zero}
 use Rattle.answers.specs.Internal.Fitting.{Fitting}
@@ -43,14 +44,6 @@ pub given-small : (test : Bool) (v : Verdict) → Small v → Small (given test 
 unfolding given
 given-small true v s = s
 given-small false v s = (omega arith, omega arith)
-
-lowest-within : (n : ℕ) (p : ℕ → Bool) → lowest n p ≤ n
-lowest-within zero p = omega arith
-lowest-within (suc n) p = by (p 0) (lowest-within n (λ k. p (suc k)))
-  where
-    by : (b : Bool) → lowest n (λ k. p (suc k)) ≤ n → cond b 0 (suc (lowest n (λ k. p (suc k)))) ≤ suc n
-    by true l = omega arith
-    by false l = omega arith
 
 pub givenAt-small : (n : ℕ) (bad : ℕ → Bool) (at : ℕ → Verdict) → ((k : ℕ) → k ≤ n → Small (at k)) → Small (givenAt n bad at)
 unfolding givenAt

@@ -15,7 +15,7 @@ use lib.ListN.{length}
 use borrow.Author.Tests.{eqb-true, eq-eqb, ne-eqb, lt-ltb, le-ltb, not-false}
 use Rattle.laws.specs.Below.{any, lowest}
 use Rattle.laws.proofs.Tests.{by-test, or-false₃, any-false}
-use Rattle.laws.proofs.Lowest.{lowest-none, below-lowest}
+use Rattle.laws.proofs.Lowest.{lowest-none}
 use Rattle.halfedges.specs.declared.answer.Answer.{Answer}
 use Rattle.halfedges.specs.Refusals.{Verdict, SHAPE, LIMIT, ROOM, DOUBLED, DONE, told, given, givenAt, short, first}
 use Rattle.halfedges.specs.Counts.{aboveLimit}
@@ -24,6 +24,7 @@ use Rattle.halfedges.proofs.Questions.{limits-kept}
 use Rattle.points.specs.Operations.{vertices}
 use Rattle.triangles.specs.Plain.{doubled, Undoubled, twinTable}
 use Rattle.triangles.specs.Internal.Joining.{Whole}
+use Rattle.triangles.proofs.Doubles.{undoubled}
 use Rattle.building.specs.Building.{unshaped, buildChecks, buildVerdict}
 use Rattle.building.specs.Internal.Relied.{Twinned, builtChecks}
 
@@ -70,7 +71,7 @@ module _ (vert : List ℕ) (points : List ℤ) where
 
         module _ (b : length vert ≤ p) where
           none-doubled : Undoubled vert
-          none-doubled = record { each = λ h m. below-lowest (length vert) (doubled vert) h (omega (arith, e)) }
+          none-doubled = undoubled vert (omega (arith, e))
 
           pub twinned : {twin : List ℕ} → twin ≡ twinTable vert → Twinned twin vert (vertices points)
           twinned t = record { built = t; undoubled = none-doubled; whole = whole; few = limits-kept (length vert) (vertices points) 0 l .1 }

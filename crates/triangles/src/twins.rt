@@ -3,13 +3,11 @@
 ghost use Prim.Native.Nat.{_≤_, _<_};
 ghost use mathlib.Core.Path.{_≡_};
 ghost use lib.ListN.{length, set};
-ghost use Rattle.laws.specs.Below.{lowest};
 ghost use Rattle.laws.specs.Parts.{inFront};
 ghost use Rattle.alike.specs.Internal.Alike.{bound, Ready, Chain, Marked};
 ghost use Rattle.alike.specs.Internal.Narrowed.{Small};
 ghost use Rattle.halfedges.specs.Cage.{PREV, cell};
-ghost use Rattle.triangles.specs.Plain.{doubled as Plain·doubled, twinTable};
-ghost use Rattle.triangles.specs.Internal.Joining.{Whole, Ended, endTable, crossing, Lower, Joined};
+ghost use Rattle.triangles.specs.Internal.Joining.{Whole, Twinning, Ended, endTable, crossing, Lower, Joined};
 use alike;
 use alike::numbers;
 use halfedges::table::HalfedgeTable;
@@ -17,9 +15,7 @@ use halfedges::table::HalfedgeTable;
 // TWIN in front of a table. Gives the lower halfedge of the first pair that is on two, and where there is none H.
 pub fn build_twins(vert: &[u32], twin: &mut [u32]) -> usize
     requires { ⌜ Whole (now vert) × (length (now vert) ≤ length (now twin)) ⌝ }
-    ensures { λ r. ⌜ r ≡ lowest (length (now (vert .entry))) (Plain·doubled (now (vert .entry))) ⌝ }
-    ensures { λ r.
-        ⌜ (length (now (vert .entry)) ≤ r → now (twin .exit) ≡ inFront (twinTable (now (vert .entry))) (now (twin .entry))) ⌝ }
+    ensures { λ r. ⌜ Twinning (now (vert .entry)) (now (twin .entry)) r (now (twin .exit)) ⌝ }
 {
     if numbers::are_small(vert) {
         return join(vert, twin);
@@ -32,9 +28,7 @@ pub fn build_twins(vert: &[u32], twin: &mut [u32]) -> usize
 // The same of corners that have small numbers.
 fn join(vert: &[u32], twin: &mut [u32]) -> usize
     requires { ⌜ Whole (now vert) × Small (now vert) × (length (now vert) ≤ length (now twin)) ⌝ }
-    ensures { λ r. ⌜ r ≡ lowest (length (now (vert .entry))) (Plain·doubled (now (vert .entry))) ⌝ }
-    ensures { λ r.
-        ⌜ (length (now (vert .entry)) ≤ r → now (twin .exit) ≡ inFront (twinTable (now (vert .entry))) (now (twin .entry))) ⌝ }
+    ensures { λ r. ⌜ Twinning (now (vert .entry)) (now (twin .entry)) r (now (twin .exit)) ⌝ }
 {
     let mut ends = [0u32; HalfedgeTable::MOST_HALFEDGES];
     list_ends(vert, &mut ends);
@@ -57,9 +51,7 @@ fn list_ends(vert: &[u32], ends: &mut [u32])
 // The same by the vertices where the halfedges start and end.
 fn join_ends(vert: &[u32], ends: &[u32], twin: &mut [u32]) -> usize
     requires { ⌜ Ended (now vert) (now ends) × (length (now vert) ≤ length (now twin)) ⌝ }
-    ensures { λ r. ⌜ r ≡ lowest (length (now (vert .entry))) (Plain·doubled (now (vert .entry))) ⌝ }
-    ensures { λ r.
-        ⌜ (length (now (vert .entry)) ≤ r → now (twin .exit) ≡ inFront (twinTable (now (vert .entry))) (now (twin .entry))) ⌝ }
+    ensures { λ r. ⌜ Twinning (now (vert .entry)) (now (twin .entry)) r (now (twin .exit)) ⌝ }
 {
     let mut heads = [0u32; alike::BOUND];
     let mut before = [0u32; HalfedgeTable::MOST_HALFEDGES];
@@ -79,9 +71,7 @@ fn join_vertices(
 ) -> usize
     requires { ⌜ Ended (now vert) (now ends) × Ready (now vert) (now ends) (now heads) (now before) ⌝ }
     requires { ⌜ (bound ≤ length (now marks)) × (length (now vert) ≤ length (now twin)) ⌝ }
-    ensures { λ r. ⌜ r ≡ lowest (length (now (vert .entry))) (Plain·doubled (now (vert .entry))) ⌝ }
-    ensures { λ r.
-        ⌜ (length (now (vert .entry)) ≤ r → now (twin .exit) ≡ inFront (twinTable (now (vert .entry))) (now (twin .entry))) ⌝ }
+    ensures { λ r. ⌜ Twinning (now (vert .entry)) (now (twin .entry)) r (now (twin .exit)) ⌝ }
 {
     let mut place = vert.len();
     let mut vertex = 0;

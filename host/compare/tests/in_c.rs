@@ -220,3 +220,38 @@ fn the_example_that_builds_says_what_is_wrong() {
         assert_eq!(told(last), (Some(2), String::new(), line), "{last}");
     }
 }
+
+/// A program with its arguments, and standard output on a full disk.
+fn onto_a_full_disk(program: &Path, arguments: &[&Path]) -> Command {
+    let mut command = Command::new("sh");
+    command.args(["-c", "exec \"$0\" \"$@\" >/dev/full"]);
+    command.arg(program).args(arguments);
+    command
+}
+
+#[test]
+fn the_examples_tell_a_full_disk() {
+    let cage = named("pillow");
+    let path = Path::new(env!("CARGO_TARGET_TMPDIR")).join("full");
+    std::fs::write(&path, file_of(&cage)).expect("written");
+    for (name, output) in [
+        (
+            "example",
+            run(
+                &mut onto_a_full_disk(&EXAMPLE, &[&path, Path::new("1")]),
+                &[],
+            ),
+        ),
+        (
+            "triangles",
+            run(
+                &mut onto_a_full_disk(&TRIANGLES, &[]),
+                plain_text(&cage).as_bytes(),
+            ),
+        ),
+    ] {
+        assert_eq!(output.status.code(), Some(2), "{name}");
+        let line = format!("{name}: standard output cannot be written\n");
+        assert_eq!(String::from_utf8_lossy(&output.stderr), line);
+    }
+}

@@ -56,7 +56,7 @@ returns-3 : tie.Need-returns-3
 returns-3 c =
     let b = c .before .before .before in
     let i = b .before .before in
-    (doubled-given _ _ (shape i) (limit i) (b .build-twins .ensures .0) (c .if3 .taken), λ z. absurd (omega (arith, z)))
+    (doubled-given _ _ (shape i) (limit i) (b .build-twins .ensures .first) (c .if3 .taken), λ z. absurd (omega (arith, z)))
 
 slice-reshare-prefix-check-built : tie.Need-slice-reshare-prefix-check-built
 slice-reshare-prefix-check-built c = fits (c .before .before .before)
@@ -70,7 +70,7 @@ check-built-requires c κs =
     let i = b .before .before in
     let e = b .build-twins .ensures in
     let past = c .before .if3 .left in
-    twinned _ _ (shape i) (limit i) (e .0) past (in-front (start i .args .vert .now) (start i .args .twins .now) (e .1 past))
+    twinned _ _ (shape i) (limit i) (e .first) past (in-front (start i .args .vert .now) (start i .args .twins .now) (e .twins past))
 
 same-length-2 : tie.Need-same-length-2
 same-length-2 c = search needs
@@ -81,7 +81,7 @@ returns-4 c =
     let i = b .before .before in
     let e = b .build-twins .ensures in
     let past = c .before .before .if3 .left in
-    (c .check-built .ensures ∙ checks-left _ _ (shape i) (limit i) (e .0) past, λ _. e .1 past)
+    (c .check-built .ensures ∙ checks-left _ _ (shape i) (limit i) (e .first) past, λ _. e .twins past)
 
 pub check-plain-spec : {M : Type 1} → statement M
 check-plain-spec =

@@ -7,16 +7,22 @@ use mathlib.Core.Bool.{true, cond, _&&_}
 use mathlib.Core.List.{List}
 use lib.Dec.{ltb}
 use lib.ListN.{length}
-use Rattle.laws.specs.Below.{tabulate}
+use Rattle.laws.specs.Below.{tabulate, lowest}
+use Rattle.laws.specs.Parts.{inFront}
 use Rattle.alike.specs.Internal.Alike.{firstLike}
 use Rattle.alike.specs.Internal.Narrowed.{Small}
 use Rattle.halfedges.specs.Cage.{NEXT, PREV, marker, most-halfedges, cell}
-use Rattle.triangles.specs.Plain.{doubled, Undoubled, twins, twinOf}
+use Rattle.triangles.specs.Plain.{doubled, Undoubled, twins as Plain·twins, twinOf, twinTable}
 
 -- whole triangles, within the limit
 pub record Whole (vert : List ℕ) : Type 0 where
   pub whole : length vert % 3 ≡ 0
   pub few : length vert ≤ most-halfedges
+
+-- a place and TWIN: the lower halfedge of the first pair that is on two, or H, and then TWIN stands in front of what a table held
+pub record Twinning (vert entry : List ℕ) (place : ℕ) (exit : List ℕ) : Type 0 where
+  pub first : place ≡ lowest (length vert) (doubled vert)
+  pub twins : length vert ≤ place → exit ≡ inFront (twinTable vert) entry
 
 -- the vertex where each halfedge ends
 abbrev pub endTable : List ℕ → List ℕ
@@ -30,7 +36,7 @@ pub record Ended (vert ends : List ℕ) : Type 0 where
 
 -- m where it is h's twin, else the marker
 unfoldable pub crossing : List ℕ → ℕ → ℕ → ℕ
-crossing vert h m = cond (ltb m (length vert) && twins vert h m) m marker
+crossing vert h m = cond (ltb m (length vert) && Plain·twins vert h m) m marker
 
 -- the lower of a place and of a halfedge's first, where that is another halfedge
 pub record Lower (first halfedge place now : ℕ) : Type 0 where

@@ -81,8 +81,11 @@ returns-2 : tie.Need-returns-2
 returns-2 c =
     let j = c .before .before in
     let n = j .before .before .before .before in
-    let p = j .join2 .ensures .0 ∙ doubled-same (vert n) (corners n) (start n .pre .0) (long n) (same n) in
-    (p, λ l. j .join2 .ensures .1 (omega (arith, l, long n)) ∙ ap (λ t. inFront t (start n .args .twin .now)) (twins-same (vert n) (corners n) (start n .pre .0) (long n) (same n)))
+    let w = start n .pre .0 in
+    record {
+      first = j .join2 .ensures .first ∙ doubled-same (vert n) (corners n) w (long n) (same n);
+      twins = λ l. j .join2 .ensures .twins (omega (arith, l, long n)) ∙ ap (λ t. inFront t (start n .args .twin .now)) (twins-same (vert n) (corners n) w (long n) (same n));
+    }
 
 pub build-twins-spec : {M : Type 1} → statement M
 build-twins-spec =

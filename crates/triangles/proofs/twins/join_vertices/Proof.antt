@@ -80,7 +80,7 @@ returns c =
     let e : i .vertex ≡ bound = omega (arith, s .pre .0 .1 .buckets, c .loop-test .left, i .inv .2) in
     let b = rw e at (i .inv .3) in
     let p = built-place (s .pre .0 .0) b in
-    (p, λ l. built-twins (s .pre .0 .0) b (undoubled _ (omega (arith, l, p))) (i .inv .1) (s .pre .1 .1))
+    record { first = p; twins = λ l. built-twins (s .pre .0 .0) b (undoubled _ (omega (arith, l, p))) (i .inv .1) (s .pre .1 .1) }
 
 pub join-vertices-spec : {M : Type 1} → statement M
 join-vertices-spec =
