@@ -54,12 +54,21 @@ fn bits_of(coordinate: i32) -> u32
     coordinate as u32
 }
 
+// A number into four bytes.
+pub fn put_word(part: &mut [u8], at: usize, word: u32)
+    requires { ⌜ at + 4 ≤ length (now part) ⌝ }
+    ensures { λ _. ⌜ now (part .exit) ≡ splice (now (part .entry)) at (u32 word) ⌝ }
+{
+    part[at] = (word % 256) as u8;
+    part[at + 1] = (word / 256 % 256) as u8;
+    part[at + 2] = (word / 65536 % 256) as u8;
+    part[at + 3] = (word / 16777216) as u8;
+}
+
 // A coordinate into four bytes.
 pub fn put_coordinate(part: &mut [u8], at: usize, coordinate: i32)
     requires { ⌜ at + 4 ≤ length (now part) ⌝ }
     ensures { λ _. ⌜ now (part .exit) ≡ splice (now (part .entry)) at (u32 (twos coordinate)) ⌝ }
 {
-    let bits = bits_of(coordinate);
-    put_number(&mut *part, at, bits % 65536);
-    put_number(&mut *part, at + 2, bits / 65536);
+    put_word(&mut *part, at, bits_of(coordinate));
 }

@@ -4,11 +4,13 @@
 --     splice-part      what was written over a lent part is spliced into the whole
 --     splice-one       a store is a splice
 --     splice-two       two stores side by side are a splice
-use Prim.Native.Nat.{ℕ, _+_, _-_, _≤_, _<_}
+--     splice-four      and so are four
+use Prim.Native.Nat.{ℕ, suc, _+_, _-_, _≤_, _<_}
 use mathlib.Core.Path.{_≡_, refl, sym, ap, _∙_}
 use mathlib.Core.List.{List, [], _∷_, _++_, append-assoc, append-nil}
 use native.Mathlib.Nat.{le-refl}
 use native.Mathlib.Numerals.{add-one}
+use native.Mathlib.Omega.{arith}
 use lib.ListN.{length, set, take, drop, length-append, length-drop, drop-of-length-le}
 use lib.Seq.{set-split, sets-eq, length-take-le, drop-drop, take-at, drop-at, take-all, take-append-add, drop-append-add}
 use borrow.Rule.Slice.PartMut.{putMid, midOf}
@@ -45,3 +47,10 @@ module _ {A : Type 0} where
 
   pub splice-two : (l : List A) (at : ℕ) (a b : A) → at + 2 ≤ length l → set (set l at a) (at + 1) b ≡ splice l at (a ∷ b ∷ [])
   splice-two l at a b h = rw (add-one at, drop-drop 2 at l) (sets-eq (a ∷ b ∷ []) l at h ∙ append-assoc (take at l) (a ∷ b ∷ []) _)
+
+  pub splice-four : (l : List A) (at : ℕ) (a b c d : A) → at + 4 ≤ length l
+      → set (set (set (set l at a) (at + 1) b) (at + 2) c) (at + 3) d ≡ splice l at (a ∷ b ∷ c ∷ d ∷ [])
+  splice-four l at a b c d h =
+      let two : at + 2 ≡ suc (suc at) = omega arith in
+      let three : at + 3 ≡ suc (suc (suc at)) = omega arith in
+      rw (add-one at, two, three, drop-drop 4 at l) (sets-eq (a ∷ b ∷ c ∷ d ∷ []) l at h ∙ append-assoc (take at l) (a ∷ b ∷ c ∷ d ∷ []) _)
