@@ -21,11 +21,11 @@ use Rattle.halfedges.specs.Refusals.{Verdict, SHAPE, LIMIT, ROOM, DOUBLED, DONE
 use Rattle.halfedges.specs.Counts.{aboveLimit}
 use Rattle.halfedges.proofs.Checks.{is-passed, clean-done, first-refused, first-passed, first-stops, first-passes}
 use Rattle.halfedges.proofs.Questions.{limits-kept}
-use Rattle.points.specs.Operations.{vertices}
+use Rattle.points.specs.Operations.{vertices, unshaped}
 use Rattle.triangles.specs.Plain.{doubled, Undoubled, twinTable}
 use Rattle.triangles.specs.Internal.Joining.{Whole}
 use Rattle.triangles.proofs.Doubles.{undoubled}
-use Rattle.building.specs.Building.{unshaped, buildChecks, buildVerdict}
+use Rattle.building.specs.Building.{buildChecks, buildVerdict}
 use Rattle.building.specs.Internal.Relied.{Twinned, builtChecks}
 
 -- the lowest place is one that fails, unless it is n
@@ -34,11 +34,6 @@ unfolding givenAt given
 given-lowest n bad at l = by-test (any n bad) (λ t. rw t) (λ f. absurd (omega (arith, lowest-none n bad (any-false bad n f))))
 
 module _ (vert : List ℕ) (points : List ℤ) where
-  -- 1's last clause
-  pub points-whole : length vert ≢ 0 → length vert % 3 ≡ 0 → not (eqb (length points % 3) 0) ≡ unshaped vert points
-  unfolding unshaped
-  points-whole n w = rw (ne-eqb _ _ n, eq-eqb _ _ w)
-
   pub shape-given : unshaped vert points ≡ true → SHAPE ≡ first (buildChecks vert points)
   unfolding buildChecks first given
   shape-given s = simp s

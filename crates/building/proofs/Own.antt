@@ -26,11 +26,11 @@ use Rattle.tables.specs.Ruled.{Shaped, Paired, Placed, Numbered}
 use Rattle.tables.specs.Check.{rules}
 use Rattle.tables.proofs.Meaning.{shaped, paired, placed, numbered}
 use Rattle.tables.proofs.EdgeCount.{twin-has-twin}
-use Rattle.points.specs.Operations.{vertices, cageChecks}
+use Rattle.points.specs.Operations.{vertices, unshaped, cageChecks}
 use Rattle.triangles.specs.Plain.{Undoubled, twins, twinOf, twinTable, edgeTable}
 use Rattle.triangles.proofs.Opposite.{Opposite, opposite, are-twins, no-twin, twins-long, twin-at, one-runs, twin-is}
 use Rattle.triangles.proofs.RuleSix.{edges-numbered}
-use Rattle.building.specs.Building.{unshaped, buildChecks}
+use Rattle.building.specs.Building.{buildChecks}
 use Rattle.building.specs.Own.{slit, Slitless, share, OwnTables}
 use Rattle.building.proofs.Passed.{done-undoubled}
 

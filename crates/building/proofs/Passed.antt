@@ -23,11 +23,11 @@ use Rattle.halfedges.proofs.Questions.{limits-kept}
 use Rattle.tables.specs.Rules.{misshapen, badTwin, badVertex, badEdge}
 use Rattle.tables.specs.Check.{rules, returned}
 use Rattle.tables.proofs.Meaning.{clean-twins, clean-edges}
-use Rattle.points.specs.Operations.{vertices, cageChecks, checkCage}
+use Rattle.points.specs.Operations.{vertices, unshaped, cageChecks, checkCage}
 use Rattle.triangles.specs.Plain.{doubled, Undoubled, twinTable, edgeOf, edgeTable}
 use Rattle.triangles.proofs.Opposite.{twins-long, twins-paired}
 use Rattle.triangles.proofs.RuleSix.{edges-numbered}
-use Rattle.building.specs.Building.{built, unshaped, buildChecks, buildVerdict, buildCage}
+use Rattle.building.specs.Building.{built, buildChecks, buildVerdict, buildCage}
 
 -- ---- checks one after the other
 

@@ -1,8 +1,6 @@
 -- Document 02, §1 "Cages as plain triangles": what building answers, and what it leaves in both lent tables.
-use Prim.Native.Nat.{ℕ, _%_}
-use mathlib.Core.Bool.{Bool, not, _||_}
+use Prim.Native.Nat.{ℕ}
 use mathlib.Core.List.{List, [], _∷_, _++_}
-use lib.Dec.{eqb}
 use lib.IntN.{ℤ}
 use lib.ListN.{length, replicate}
 use Rattle.halfedges.specs.Refusals.{Verdict, SHAPE, LIMIT, VERTEX, UNUSED, FAN, POINT, DOUBLED, given, givenAt, short, first, Said, said, filled}
@@ -11,16 +9,12 @@ use Rattle.tables.specs.Tables.{Tables, tables}
 use Rattle.tables.specs.Rules.{badVertex, unused}
 use Rattle.tables.specs.Fans.{notOneFan}
 use Rattle.tables.specs.Check.{returned}
-use Rattle.points.specs.Operations.{vertices, outOfRange}
+use Rattle.points.specs.Operations.{vertices, unshaped, outOfRange}
 use Rattle.triangles.specs.Plain.{doubled, twinTable, edgeTable}
 
 -- "Build the missing tables from VERT"
 abbrev pub built : List ℕ → Tables
 built vert = tables (twinTable vert) vert (edgeTable (twinTable vert))
-
--- 1, of the two tables that are there
-unfoldable pub unshaped : List ℕ → List ℤ → Bool
-unshaped vert points = eqb (length vert) 0 || not (eqb (length vert % 3) 0) || not (eqb (length points % 3) 0)
 
 -- "Refusals: 1, 2, 13 DOUBLED at the lower halfedge of the first such pair by that number, then 4, 5, 7, 8"
 unfoldable pub buildChecks : List ℕ → List ℤ → List Verdict

@@ -9,7 +9,7 @@ ghost use Rattle.halfedges.specs.Refusals.{DONE, told, short, first, said};
 ghost use Rattle.tables.specs.Check.{returned, checked};
 ghost use Rattle.points.specs.Operations.{vertices};
 ghost use Rattle.triangles.specs.Plain.{twinTable, edgeTable};
-ghost use Rattle.building.specs.Building.{unshaped as Building·unshaped, buildChecks, buildVerdict, buildCage};
+ghost use Rattle.building.specs.Building.{buildChecks, buildVerdict, buildCage};
 ghost use Rattle.building.specs.Internal.Relied.{Twinned, Writable, builtChecks};
 use halfedges::answer::Answer;
 use halfedges::table::HalfedgeTable;
@@ -95,7 +95,7 @@ fn check_plain(twins: &mut [u32], vert: &[u32], points: &[i32]) -> Answer
     ensures { λ r. ⌜ told r ≡ first (buildChecks (now (vert .entry)) (now (points .entry))) ⌝ }
     ensures { λ r. ⌜ (told r .number ≡ 0 → now (twins .exit) ≡ inFront (twinTable (now (vert .entry))) (now (twins .entry))) ⌝ }
 {
-    if unshaped(vert, points) {
+    if cage::unshaped(vert, points) {
         return Answer::Shape;
     }
     let table = HalfedgeTable {
@@ -111,19 +111,6 @@ fn check_plain(twins: &mut [u32], vert: &[u32], points: &[i32]) -> Answer
         return Answer::Doubled(place);
     }
     check_built(&twins[..vert.len()], vert, points)
-}
-
-// 1: there is no triangle, or a table ends within a triangle or within a point.
-fn unshaped(vert: &[u32], points: &[i32]) -> bool
-    ensures { λ r. ⌜ r ≡ Building·unshaped (now (vert .entry)) (now (points .entry)) ⌝ }
-{
-    if vert.len() == 0 {
-        return true;
-    }
-    if vert.len() % 3 != 0 {
-        return true;
-    }
-    points.len() % 3 != 0
 }
 
 // 4, 5, 7 and 8 of a cage with TWIN as it is built, which keeps 3 and 6.

@@ -3,10 +3,11 @@ ghost use mathlib.Core.Path.{_≡_};
 ghost use lib.Dec.{ltb};
 ghost use lib.IntN.{natAbs};
 ghost use lib.ListN.{length};
+ghost use Rattle.laws.specs.Below.{any};
 ghost use Rattle.halfedges.specs.Refusals.{POINT, told, givenAt, first};
 ghost use Rattle.tables.specs.Tables.{tables};
 ghost use Rattle.tables.specs.Check.{checked};
-ghost use Rattle.points.specs.Operations.{most-coordinate, outOfRange, cageChecks, checkCage};
+ghost use Rattle.points.specs.Operations.{unshaped as Operations·unshaped, most-coordinate, outOfRange, cageChecks, checkCage};
 use halfedges::answer::Answer;
 use points::rules::LEAST_COORDINATE;
 use points::rules::MOST_COORDINATE;
@@ -43,8 +44,44 @@ pub fn check_for_depth(
     check_points(points)
 }
 
-// Rule 8: every coordinate is in range.
+// 1, where VERT and points are all there is: there is no triangle, or a table ends within a triangle or within a point.
+pub fn unshaped(vert: &[u32], points: &[i32]) -> bool
+    ensures { λ r. ⌜ r ≡ Operations·unshaped (now (vert .entry)) (now (points .entry)) ⌝ }
+{
+    if vert.len() == 0 {
+        return true;
+    }
+    if vert.len() % 3 != 0 {
+        return true;
+    }
+    points.len() % 3 != 0
+}
+
+// Rule 8: every coordinate is in range. Most tables are passed without looking for a place.
 pub fn check_points(points: &[i32]) -> Answer
+    ensures { λ r. ⌜ told r ≡ givenAt (length (now (points .entry))) (outOfRange (now (points .entry))) POINT ⌝ }
+{
+    if any_out_of_range(points) {
+        return find_out_of_range(points);
+    }
+    Answer::Done
+}
+
+// Whether some coordinate is out of range, found without a branch.
+fn any_out_of_range(points: &[i32]) -> bool
+    ensures { λ r. ⌜ r ≡ any (length (now (points .entry))) (outOfRange (now (points .entry))) ⌝ }
+{
+    let mut found = false;
+    let mut place = 0;
+    while place < points.len() {
+        found = found | out_of_range(points[place]);
+        place += 1;
+    }
+    found
+}
+
+// The first coordinate that is out of range.
+fn find_out_of_range(points: &[i32]) -> Answer
     ensures { λ r. ⌜ told r ≡ givenAt (length (now (points .entry))) (outOfRange (now (points .entry))) POINT ⌝ }
 {
     let mut place = 0;

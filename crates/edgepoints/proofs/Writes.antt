@@ -28,9 +28,9 @@ use Rattle.halfedges.proofs.Triangle.{next-below, prev-below}
 use Rattle.edgepoints.specs.declared.edges.Corner.{Corner}
 use Rattle.edgepoints.specs.declared.edges.Halfedge.{Halfedge}
 use Rattle.edgepoints.specs.declared.edges.Triangle.{Triangle}
-use Rattle.points.specs.NextPoints.{coordinate}
+use Rattle.points.specs.NextPoints.{coordinate, pointOf}
 use Rattle.points.specs.Internal.Relied.{Cornered}
-use Rattle.points.specs.Internal.Cells.{value, put, pointOf, Near}
+use Rattle.points.specs.Internal.Cells.{value, put, Near}
 use Rattle.edgepoints.specs.Internal.Edges.{Spanned, middle, start, finish, meeting, meet, place, borderEdge, inner, innerEdge, AsksInner, stepEdge, Asks, cornerOf, between, halfedgeOf, triangleOf, Readable, borderAmong, inTurn, AskedInTurn, putEdge, Edged, Started}
 use Rattle.points.proofs.Range.{any-in-range}
 use Rattle.points.proofs.Only.{Only, only-on, only-wider, only-take, only-steps, put-only}

@@ -17,10 +17,10 @@ use Rattle.halfedges.specs.Cage.{NEXT, PREV, marker, cell, border}
 use Rattle.halfedges.proofs.Triangle.{next-below, prev-below}
 use Rattle.edgepoints.specs.declared.edges.Halfedge.{Halfedge}
 use Rattle.points.specs.PointRules.{E2}
-use Rattle.points.specs.NextPoints.{coordinate, far, edgePoint, carrier}
+use Rattle.points.specs.NextPoints.{coordinate, pointOf, far, edgePoint, carrier}
 use Rattle.points.specs.Operations.{most-coordinate, InRange}
 use Rattle.points.specs.Internal.Relied.{Carried}
-use Rattle.points.specs.Internal.Cells.{value, put, pointOf}
+use Rattle.points.specs.Internal.Cells.{value, put}
 use Rattle.points.specs.Internal.Parts.{started, finished}
 use Rattle.edgepoints.specs.Internal.Edges.{halfedgeOf, Edged, Started, putEdge}
 use Rattle.points.proofs.Numerators.{started-at-most}

@@ -7,8 +7,8 @@ use native.Mathlib.Omega.{arith}
 use lib.IntN.{ℤ, pos, natAbs}
 use lib.ListN.{take}
 use lib.Seq.{getD-take}
-use Rattle.points.specs.NextPoints.{coordinate}
-use Rattle.points.specs.Internal.Cells.{value, pointOf, Near}
+use Rattle.points.specs.NextPoints.{coordinate, pointOf}
+use Rattle.points.specs.Internal.Cells.{value, Near}
 use Rattle.points.proofs.Only.{Only, three}
 use Rattle.points.specs.Operations.{most-coordinate}
 

@@ -1,7 +1,7 @@
 -- Document 01, "Points": a level's points from those of the level before.
 use Prim.Native.Nat.{ℕ, zero, suc, _+_, _-_, _*_, _/_, _%_}
 use mathlib.Core.Bool.{Bool, cond, _&&_}
-use mathlib.Core.List.{List, _++_, map}
+use mathlib.Core.List.{List, [], _∷_, _++_, map}
 use lib.Dec.{eqb, ltb}
 use lib.IntN.{ℤ, pos}
 use lib.ListN.{length, getD}
@@ -17,6 +17,10 @@ use Rattle.laws.specs.Totals.{total}
 -- "x, y, z per vertex": coordinate k of vertex v
 abbrev pub coordinate : List ℤ → ℕ → ℕ → ℤ
 coordinate points k v = getD points (3 * v + k) (pos 0)
+
+-- the point of vertex v
+abbrev pub pointOf : List ℤ → ℕ → List ℤ
+pointOf points v = coordinate points 0 v ∷ coordinate points 1 v ∷ coordinate points 2 v ∷ []
 
 -- the corners at v
 unfoldable pub corners : List ℕ → ℕ → List ℕ

@@ -19,6 +19,10 @@ use Rattle.points.specs.NextPoints.{levelPoints}
 abbrev pub vertices : List ℤ → ℕ
 vertices points = length points / 3
 
+-- 1, of VERT and the points alone: "the table is empty or no multiple of 3 or the points are no multiple of 3"
+unfoldable pub unshaped : List ℕ → List ℤ → Bool
+unshaped vert points = eqb (length vert) 0 || not (eqb (length vert % 3) 0) || not (eqb (length points % 3) 0)
+
 -- "each coordinate from −1,048,576 to 1,048,576"
 abbrev pub most-coordinate : ℕ
 most-coordinate = 1048576

@@ -2,7 +2,8 @@
 ghost use mathlib.Core.Path.{_≡_};
 ghost use Prim.Native.Nat.{_+_, _*_, _<_};
 ghost use lib.ListN.{length};
-ghost use Rattle.points.specs.Internal.Cells.{put, xyz, pointOf};
+ghost use Rattle.points.specs.NextPoints.{pointOf};
+ghost use Rattle.points.specs.Internal.Cells.{put, xyz};
 
 // Coordinates x, y, z are stored from a cell on.
 pub fn put_point(points: &mut [i32], to: usize, x: i32, y: i32, z: i32)

@@ -11,8 +11,8 @@ use lib.Dec.{eqb}
 use lib.IntN.{ℤ, pos, natAbs, _+ℤ_, +ℤ-idr}
 use lib.ListN.{length}
 use borrow.Author.Tests.{eq-eqb, ne-eqb}
-use Rattle.points.specs.NextPoints.{coordinate}
-use Rattle.points.specs.Internal.Cells.{value, put, pointOf}
+use Rattle.points.specs.NextPoints.{coordinate, pointOf}
+use Rattle.points.specs.Internal.Cells.{value, put}
 use Rattle.points.proofs.Only.{Only, only-take, put-only, put-hit}
 use Rattle.points.proofs.Holding.{pointOf-is}
 use Rattle.spokes.specs.Internal.Sums.{Laid, addTo, AddsTo}

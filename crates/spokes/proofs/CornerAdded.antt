@@ -14,9 +14,9 @@ use lib.ListN.{length}
 use Rattle.laws.proofs.Cases.{cond-keeps}
 use Rattle.laws.proofs.Integers.{natAbs-add}
 use Rattle.laws.proofs.Totals.{added, bracket, cond-three}
-use Rattle.points.specs.NextPoints.{coordinate}
+use Rattle.points.specs.NextPoints.{coordinate, pointOf}
 use Rattle.points.specs.Operations.{most-coordinate}
-use Rattle.points.specs.Internal.Cells.{value, pointOf}
+use Rattle.points.specs.Internal.Cells.{value}
 use Rattle.points.proofs.Only.{Only, three, only-on, only-wider}
 use Rattle.points.proofs.Holding.{Holds, pointOf-is}
 use Rattle.spokes.specs.Internal.Sums.{addTo, AddsTo}

@@ -9,7 +9,8 @@ use lib.ListN.{length, take}
 use Rattle.laws.proofs.Totals.{added}
 use Rattle.points.specs.Operations.{most-coordinate}
 use Rattle.points.specs.Internal.Relied.{most-corners}
-use Rattle.points.specs.Internal.Cells.{value, pointOf, Near}
+use Rattle.points.specs.NextPoints.{pointOf}
+use Rattle.points.specs.Internal.Cells.{value, Near}
 use Rattle.points.proofs.Only.{Only, only-on}
 use Rattle.points.proofs.Range.{any-in-range}
 use Rattle.points.proofs.Holding.{Holds, holds-own, near-of}

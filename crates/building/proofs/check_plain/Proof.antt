@@ -7,8 +7,7 @@ use native.Mathlib.Omega.{arith}
 use lib.ListN.{length}
 use lib.Seq.{length-take-le}
 use Rattle.halfedges.specs.Counts.{aboveLimit}
-use Rattle.points.specs.Operations.{vertices}
-use Rattle.building.specs.Building.{unshaped}
+use Rattle.points.specs.Operations.{vertices, unshaped}
 use Rattle.building.proofs.Given.{shape-given, limit-given, whole, doubled-given, twinned, checks-left}
 use Rattle.building.proofs.Built.{in-front}
 use Rattle.building.proofs.check_plain.Statement.{statement}

@@ -1,4 +1,4 @@
--- `check_points` goes up to the first coordinate that is out of range.
+-- `find_out_of_range` goes up to the first coordinate that is out of range.
 use borrow.Author.Needs.{needs}
 use Prim.Native.Nat.{_-_, _≤_}
 use mathlib.Core.Path.{_≡_, sym, _∙_}
@@ -12,8 +12,8 @@ use Rattle.laws.proofs.Integers.{back-of}
 use Rattle.halfedges.specs.Refusals.{POINT}
 use Rattle.halfedges.proofs.Checks.{Clean, given-here, clean-done}
 use Rattle.points.specs.Operations.{outOfRange}
-use Rattle.cage.proofs.check_points.Statement.{statement}
-use Rattle.cage.proofs.check_points.Tie as tie
+use Rattle.cage.proofs.find_out_of_range.Statement.{statement}
+use Rattle.cage.proofs.find_out_of_range.Tie as tie
 
 abbrev Inv-loop : tie.InvT-loop
 Inv-loop points place₀ place = (place ≤ length points) × Clean place (outOfRange points)
@@ -58,8 +58,8 @@ loop-again c =
 returns-2 : tie.Need-returns-2 Inv-loop μ-loop
 returns-2 c = sym (clean-done _ _ _ (λ k l. c .before .loop .inv .1 k (omega arith)))
 
-pub check-points-spec : {M : Type 1} → statement M
-check-points-spec =
+pub find-out-of-range-spec : {M : Type 1} → statement M
+find-out-of-range-spec =
     tie.close
     (tie.spec
     Inv-loop

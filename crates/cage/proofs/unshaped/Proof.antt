@@ -1,9 +1,21 @@
 -- `unshaped` is 1's test, clause by clause.
+use Prim.Native.Nat.{ℕ, _%_}
+use mathlib.Core.Path.{_≡_}
+use mathlib.Core.Logic.{_≢_}
+use mathlib.Core.Bool.{not}
+use mathlib.Core.List.{List}
+use lib.Dec.{eqb}
+use lib.IntN.{ℤ}
+use lib.ListN.{length}
 use borrow.Author.Tests.{eq-eqb, ne-eqb}
-use Rattle.building.specs.Building.{unshaped}
-use Rattle.building.proofs.Given.{points-whole}
-use Rattle.building.proofs.unshaped.Statement.{statement}
-use Rattle.building.proofs.unshaped.Tie as tie
+use Rattle.points.specs.Operations.{unshaped}
+use Rattle.cage.proofs.unshaped.Statement.{statement}
+use Rattle.cage.proofs.unshaped.Tie as tie
+
+-- its last clause
+points-whole : (vert : List ℕ) (points : List ℤ) → length vert ≢ 0 → length vert % 3 ≡ 0 → not (eqb (length points % 3) 0) ≡ unshaped vert points
+unfolding unshaped
+points-whole vert points n w = rw (ne-eqb _ _ n, eq-eqb _ _ w)
 
 returns : tie.Need-returns
 unfolding unshaped

@@ -14,7 +14,8 @@ use Rattle.halfedges.specs.Cage.{NEXT, PREV, marker, cell}
 use Rattle.points.specs.PointRules.{E1}
 use Rattle.points.specs.Operations.{most-coordinate, InRange}
 use Rattle.points.specs.Internal.Relied.{Cornered}
-use Rattle.points.specs.Internal.Cells.{value, put, pointOf, Near}
+use Rattle.points.specs.NextPoints.{pointOf}
+use Rattle.points.specs.Internal.Cells.{value, put, Near}
 use Rattle.points.specs.Internal.Parts.{started, finished, met}
 
 -- a halfedge's ends and its opposite corner are in range

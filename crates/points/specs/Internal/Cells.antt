@@ -1,9 +1,8 @@
 -- Cells of a lent table of points.
 use Prim.Native.Nat.{ℕ, zero, suc, _+_, _≤_, _<_}
-use mathlib.Core.List.{List, [], _∷_}
+use mathlib.Core.List.{List}
 use lib.IntN.{ℤ, pos, natAbs}
 use lib.ListN.{getD, set}
-use Rattle.points.specs.NextPoints.{coordinate}
 use Rattle.points.specs.Operations.{most-coordinate}
 
 -- what cell i holds
@@ -20,9 +19,6 @@ xyz x y z zero = x
 xyz x y z (suc zero) = y
 xyz x y z (suc (suc k)) = z
 
--- the point of vertex v, and that a point is in range
-abbrev pub pointOf : List ℤ → ℕ → List ℤ
-pointOf l v = coordinate l 0 v ∷ coordinate l 1 v ∷ coordinate l 2 v ∷ []
-
+-- a point is in range
 abbrev pub Near : List ℤ → Type 0
 Near p = (k : ℕ) → k < 3 → natAbs (value p k) ≤ most-coordinate

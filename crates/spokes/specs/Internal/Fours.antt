@@ -6,7 +6,8 @@ use lib.ListN.{length}
 use Rattle.halfedges.specs.Cage.{cell}
 use Rattle.points.specs.Operations.{most-coordinate}
 use Rattle.points.specs.Internal.Relied.{most-corners}
-use Rattle.points.specs.Internal.Cells.{value, pointOf, Near}
+use Rattle.points.specs.NextPoints.{pointOf}
+use Rattle.points.specs.Internal.Cells.{value, Near}
 use Rattle.spokes.specs.declared.fours.Four.{Four}
 use Rattle.spokes.specs.Internal.Sums.{Laid, addTo}
 

@@ -7,8 +7,7 @@ use lib.IntN.{ℤ}
 use lib.ListN.{length}
 use Rattle.laws.specs.Internal.Steps.{steps}
 use Rattle.halfedges.specs.Cage.{cell}
-use Rattle.points.specs.NextPoints.{far}
-use Rattle.points.specs.Internal.Cells.{pointOf}
+use Rattle.points.specs.NextPoints.{pointOf, far}
 use Rattle.spokes.specs.Internal.Sums.{addTo, AddsTo}
 use Rattle.spokes.specs.Internal.Fours.{fourSpokes}
 

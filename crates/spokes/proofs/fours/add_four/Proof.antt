@@ -4,7 +4,7 @@ use mathlib.Core.Path.{_≡_, refl}
 use mathlib.Core.List.{List}
 use lib.IntN.{ℤ}
 use borrow.Author.Needs.{needs}
-use Rattle.points.specs.Internal.Cells.{pointOf}
+use Rattle.points.specs.NextPoints.{pointOf}
 use Rattle.spokes.specs.declared.fours.Four.{Four}
 use Rattle.spokes.specs.Internal.Fours.{addFour}
 use Rattle.spokes.proofs.CornerAdded.{corner-on}
