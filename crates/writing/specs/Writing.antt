@@ -17,11 +17,12 @@ pub record Written : Type 0 where
   pub answer : Said ℕ
   pub file : List ℕ
 
--- "writing returns the file's length"; "Bytes past the file are untouched"
+-- a file's bytes where the verdict is done: "writing returns the file's length"; "Bytes past the file are untouched"
+unfoldable pub written : Verdict → List ℕ → List ℕ → Written
+written verdict bytes lent = record { answer = said verdict (length bytes) 0; file = filled verdict bytes lent }
+
 unfoldable pub writeFile : Tables → List ℤ → List ℕ → Written
-writeFile c points lent =
-    let verdict = writeVerdict c points lent in
-    record { answer = said verdict (length (file c points)) 0; file = filled verdict (file c points) lent }
+writeFile c points lent = written (writeVerdict c points lent) (file c points) lent
 
 -- what the code's answer says
 abbrev pub wrote : Writing → Said ℕ
