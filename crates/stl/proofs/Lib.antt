@@ -1,0 +1,2 @@
+pub mod FacetLaws
+pub mod Verdict
