@@ -1,5 +1,5 @@
 -- Every answer fits its cells: of the cage check (`check-fits`), building (`build-fits`), the count question (`counts-fit`), refining
--- (`refine-fits`), the corner question (`corners-fit`), reading (`read-fits`) and writing (`write-fits`). Assumes nothing.
+-- (`refine-fits`), the corner question (`corners-fit`), reading (`read-fits`), writing (`write-fits`) and writing STL (`stl-fits`). Assumes nothing.
 use Prim.Native.Nat.{ℕ, suc, _+_, _≤_, _<_}
 use mathlib.Core.Path.{_≡_, refl}
 use mathlib.Core.Bool.{Bool, true, false, cond}
@@ -36,10 +36,14 @@ use Rattle.building.specs.Building.{buildChecks, buildVerdict, buildCage}
 use Rattle.building.proofs.Outcome.{limits}
 use Rattle.cagefile.specs.Fields.{Head, opening, heads, file}
 use Rattle.reading.specs.Reading.{past, fieldChecks, fieldsChecks, HIn, VIn, openingChecks, readVerdict, readFile}
-use Rattle.writing.specs.Writing.{writeVerdict, writeFile}
+use Rattle.writing.specs.Writing.{writeVerdict, written, writeFile}
 use Rattle.reading.proofs.Verdict.{opening-kept, read-sound}
 use Rattle.cagefile.proofs.Fits.{file-length}
 use Rattle.writing.proofs.Accepted.{write-fits as write-kept}
+use Rattle.stl.specs.File.{stlFile}
+use Rattle.stl.specs.Writing.{stlVerdict, writeStl}
+use Rattle.stl.proofs.FacetLaws.{file-length as stl-length}
+use Rattle.stl.proofs.Verdict.{stl-ready}
 use Rattle.answers.specs.Cells.{cells, lengthCells, levelNumbers, levelCells}
 use Rattle.answers.specs.Internal.Fitting.{Fitting, Sevens}
 use Rattle.answers.proofs.Small.{Small, fitting-both, fitting-tabulate, fitting-when, given-small, givenAt-small, first-small, guarded-small, joined-small}
@@ -300,5 +304,14 @@ module _ (c : Tables) (points : List ℤ) (lent : List ℕ) where
   write-done z = let k = write-kept c points lent (first-zero _ z) .0 in omega (arith, file-length c points (k .shaped), k .few-halfedges, k .few-vertices)
 
   pub write-fits : Fitting (lengthCells (writeFile c points lent .answer))
-  unfolding writeFile said
+  unfolding writeFile written said
   write-fits = (write-small .0, (write-small .1, (by-test (eqb (writeVerdict c points lent .number) 0) (λ e. rw e (write-done (eqb-true _ 0 e))) (λ e. rw e (omega arith)), tt)))
+
+module _ (vert : List ℕ) (points : List ℤ) (lent : List ℕ) where
+  stl-done : stlVerdict vert points lent .number ≡ 0 → length (stlFile vert points) < 4294967296
+  unfolding stlVerdict
+  stl-done z = let r = stl-ready vert points lent (first-zero _ z) .0 in omega (arith, stl-length vert points, r .few)
+
+  pub stl-fits : writeStl vert points lent .answer .values < 4294967296
+  unfolding writeStl written said
+  stl-fits = by-test (eqb (stlVerdict vert points lent .number) 0) (λ e. rw e (stl-done (eqb-true _ 0 e))) (λ e. rw e (omega arith))

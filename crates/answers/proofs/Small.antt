@@ -1,4 +1,4 @@
--- Lists of small numbers (`fitting-at`, `fitting-both`, `fitting-tabulate`, `fitting-when`), and checks with a small number and place: one of
+-- Lists of small numbers (`fitting-at`, `fitting-both`, `fitting-tabulate`, `fitting-when`), every answer's number (`number-small`), and checks with a small number and place: one of
 -- them (`given-small`, `givenAt-small`), the first of several (`first-small`, `guarded-small`, `joined-small`). Assumes nothing.
 use Prim.Native.Nat.{ℕ, zero, suc, _≤_, _<_, zero-le, suc-le-suc}
 use mathlib.Core.Path.{_≡_, refl}
@@ -12,7 +12,9 @@ use borrow.Author.Tests.{eqb-true}
 use Rattle.laws.specs.Below.{tabulate, any, lowest}
 use Rattle.laws.proofs.Tests.{by-test}
 use Rattle.laws.proofs.Lowest.{lowest-within}
-use Rattle.halfedges.specs.Refusals.{Verdict, DONE, given, givenAt, whenDone, first}
+use Rattle.halfedges.specs.declared.answer.Answer.{Answer}
+use Rattle.halfedges.specs.declared.answer.Answer.the-variants.{Done, Shape, Limit, Twin, Vertex, Unused, Edge, Fan, Point, Room, Short, Field, Extra, Doubled}
+use Rattle.halfedges.specs.Refusals.{Verdict, DONE, told, given, givenAt, whenDone, first}
 use Rattle.halfedges.proofs.Checks.{first-refused-before, first-more, first-zero}
 use Rattle.answers.specs.Internal.Fitting.{Fitting}
 
@@ -31,6 +33,23 @@ fitting-tabulate (suc n) f l = (l 0 (suc-le-suc zero-le), fitting-tabulate n (λ
 
 pub fitting-when : (v : Verdict) (ns ms : List ℕ) → (v .number ≡ 0 → Fitting ns) → Fitting ms → Fitting (whenDone v ns ms)
 fitting-when v ns ms f g = by-test (eqb (v .number) 0) (λ e. rw e (f (eqb-true (v .number) 0 e))) (λ e. rw e g)
+
+-- every number fits a cell
+pub number-small : (a : Answer) → told a .number < 4294967296
+number-small Done = omega arith
+number-small Shape = omega arith
+number-small Limit = omega arith
+number-small (Twin h) = omega arith
+number-small (Vertex h) = omega arith
+number-small (Unused v) = omega arith
+number-small (Edge h) = omega arith
+number-small (Fan v) = omega arith
+number-small (Point i) = omega arith
+number-small (Room t) = omega arith
+number-small (Short o) = omega arith
+number-small (Field o) = omega arith
+number-small (Extra o) = omega arith
+number-small (Doubled h) = omega arith
 
 -- a verdict whose number and place fit a cell
 abbrev pub Small : Verdict → Type 0

@@ -9,7 +9,7 @@ ghost use Rattle.halfedges.specs.Corners.{cornered};
 ghost use Rattle.tables.specs.Check.{checked as Check·checked};
 ghost use Rattle.reading.specs.Reading.{reported};
 ghost use Rattle.writing.specs.Writing.{wrote};
-ghost use Rattle.answers.specs.Cells.{cells, lengthCells, levelCells};
+ghost use Rattle.answers.specs.Cells.{cells, lengthCells, placeCell, stlCells, levelCells};
 ghost use Rattle.answers.specs.Internal.Fitting.{Fitting, Sevens};
 use halfedges::corners::Corners;
 use halfedges::table::Counted;
@@ -67,6 +67,27 @@ pub fn of_writing(written: Writing) -> [u32; 3]
     let told = written.answer;
     let number = told.number() as u32;
     let place = told.place() as u32;
+    [number, place, written.length as u32]
+}
+
+// A place as a cell: one that does not fit is told as the largest that does.
+fn place_cell(place: usize) -> u32
+    ensures { λ r. ⌜ r ≡ placeCell place ⌝ }
+{
+    if place < 4294967296 {
+        return place as u32;
+    }
+    4294967295
+}
+
+// Number, place and the length of an STL file.
+pub fn of_stl(written: Writing) -> [u32; 3]
+    requires { ⌜ written .length < 4294967296 ⌝ }
+    ensures { λ r. ⌜ r ≡ stlCells (wrote written) ⌝ }
+{
+    let told = written.answer;
+    let number = told.number() as u32;
+    let place = place_cell(told.place());
     [number, place, written.length as u32]
 }
 

@@ -7,13 +7,15 @@ ghost use Rattle.points.specs.Operations.{checkCage, refineCage};
 ghost use Rattle.building.specs.Building.{buildCage};
 ghost use Rattle.reading.specs.Reading.{readFile};
 ghost use Rattle.writing.specs.Writing.{writeFile};
-ghost use Rattle.answers.specs.Cells.{cells as Cells·cells, lengthCells, levelCells};
+ghost use Rattle.stl.specs.Writing.{writeStl};
+ghost use Rattle.answers.specs.Cells.{cells as Cells·cells, lengthCells, stlCells, levelCells};
 use answers;
 use building;
 use halfedges::corners;
 use halfedges::table::HalfedgeTable;
 use reading;
 use refining;
+use stl;
 use writing;
 
 // The cage check 1 to 8.
@@ -144,4 +146,20 @@ pub extern "C" fn ryebadger_write(
 {
     let writing = writing::write(twin, vert, edge, points, file);
     *answer = answers::of_writing(writing);
+}
+
+// Writing any level's STL into a lent file.
+#[no_mangle]
+pub extern "C" fn ryebadger_write_stl(
+    vert: &[u32],
+    points: &[i32],
+    file: &mut [u8],
+    answer: &mut [u32; 3],
+)
+    ensures { λ _.
+        let after = writeStl (now (vert .entry)) (now (points .entry)) (now (file .entry)) in
+        ⌜ (now (answer .exit) ≡ stlCells (after .answer)) × (now (file .exit) ≡ after .file) ⌝ }
+{
+    let writing = stl::write_stl(vert, points, file);
+    *answer = answers::of_stl(writing);
 }
