@@ -1,4 +1,3 @@
 -- What only contracts between functions cite.
 pub mod Doubling
 pub mod Steps
-pub mod Buffer

@@ -1,20 +1,18 @@
 -- Document 01, "The level lister": what is printed for a file's bytes.
-use Prim.Native.Nat.{ℕ, _*_}
+use Prim.Native.Nat.{ℕ}
 use mathlib.Core.List.{List, [], _∷_, _++_}
-use lib.IntN.{ℤ, pos}
-use lib.ListN.{replicate}
+use lib.IntN.{ℤ}
 use Rattle.laws.specs.Below.{endToEnd}
 use Rattle.halfedges.specs.declared.table.HalfedgeTable.{HalfedgeTable}
 use Rattle.halfedges.specs.declared.table.Levels.{Levels}
-use Rattle.halfedges.specs.Cage.{most-halfedges, most-vertices, most-depth, B}
-use Rattle.halfedges.specs.Refusals.{whenDone}
+use Rattle.halfedges.specs.Cage.{most-depth, B}
 use Rattle.halfedges.specs.Counts.{levels}
-use Rattle.tables.specs.Tables.{Tables, tables, countsOf}
+use Rattle.tables.specs.Tables.{Tables, countsOf}
 use Rattle.splitting.specs.NextLevel.{level}
-use Rattle.points.specs.Operations.{vertices, checkCage}
-use Rattle.reading.specs.Reading.{twinsIn, vertsIn, edgesIn, pointsIn, readVerdict}
+use Rattle.points.specs.Operations.{vertices}
 use Rattle.text.specs.Lines.{decimal, line, levelWords, roomLine}
-use Rattle.text.specs.Replies.{Reply, answered, refused}
+use Rattle.text.specs.Replies.{Reply}
+use Rattle.intake.specs.Intake.{fileReply}
 
 -- "level, H, E, F, V, B" of level k, whose B is borders k
 abbrev pub levelLine : Levels → (ℕ → ℕ) → ℕ → List ℕ
@@ -28,22 +26,10 @@ levelLines l borders = endToEnd 7 (levelLine l borders) ++ roomLine (l .«halfed
 unfoldable pub levelBorders : HalfedgeTable → Tables → ℕ → ℕ
 levelBorders t c k = B (level t c k .twin)
 
--- "checks the cage and prints": the lines of an accepted cage, or the refusal
-unfoldable pub cageListing : Tables → List ℤ → Reply
-cageListing c points =
-    let t = countsOf c (vertices points) in
-    let verdict = checkCage c points .verdict in
-    whenDone verdict (answered (levelLines (levels t most-depth) (levelBorders t c))) (refused verdict)
+-- the lines of an accepted cage
+unfoldable pub cageLines : Tables → List ℤ → List ℕ
+cageLines c points = let t = countsOf c (vertices points) in levelLines (levels t most-depth) (levelBorders t c)
 
--- tables with room for any cage within the limits
-unfoldable pub roomy : Tables
-roomy = let cells : List ℕ = replicate most-halfedges 0 in tables cells cells cells
-
-unfoldable pub roomyPoints : List ℤ
-roomyPoints = replicate (3 * most-vertices) (pos 0)
-
--- "Reads one cage file on standard input, checks the cage and prints"
-unfoldable pub listing : List ℕ → Reply
-listing f =
-    let verdict = readVerdict f roomy roomyPoints in
-    whenDone verdict (cageListing (tables (twinsIn f) (vertsIn f) (edgesIn f)) (pointsIn f)) (refused verdict)
+-- "Reads one cage file on standard input, checks the cage and prints"; "A refusal prints only one line"
+abbrev pub listing : List ℕ → Reply
+listing = fileReply cageLines

@@ -6,19 +6,15 @@ ghost use lib.ListN.{length};
 ghost use Rattle.io.specs.Counts.{Counts};
 ghost use Rattle.laws.specs.Below.{endToEnd};
 ghost use Rattle.halfedges.specs.Cage.{most-halfedges};
-ghost use Rattle.halfedges.specs.Refusals.{told};
-ghost use Rattle.tables.specs.Tables.{tables};
 ghost use Rattle.text.specs.Lines.{decimal, line};
 ghost use Rattle.text.specs.Replies.{Says};
 ghost use Rattle.text.specs.Internal.Put.{Put, Replied};
 ghost use Rattle.text.specs.Internal.LevelWords.{wordsOf};
 ghost use Rattle.lister.specs.Listing.{levelLine, levelLines, listing};
 ghost use Rattle.lister.specs.Internal.Doubling.{doubled};
-ghost use Rattle.lister.specs.Internal.Steps.{Held, readListing, Small, checkedListing};
+ghost use Rattle.lister.specs.Internal.Steps.{Small, checkedListing};
 use halfedges::table::HalfedgeTable;
 use halfedges::table::Levels;
-use reading::Reading;
-use tables::check;
 use tables::check::Checked;
 use text::lines;
 use text::lines::LevelCounts;
@@ -41,29 +37,7 @@ fn check_file(file: &[u8]) -> Checked
     let mut vert = [0u32; HalfedgeTable::MOST_HALFEDGES];
     let mut edge = [0u32; HalfedgeTable::MOST_HALFEDGES];
     let mut points = [0i32; 3 * HalfedgeTable::MOST_VERTICES];
-    let reading = reading::read(file, &mut twin, &mut vert, &mut edge, &mut points);
-    check_read(reading, &twin, &vert, &edge, &points)
-}
-
-// The check of the cage that stands at the fronts of the tables, where the file reads; else its refusal.
-fn check_read(reading: Reading, twin: &[u32], vert: &[u32], edge: &[u32], points: &[i32]) -> Checked
-    requires { ⌜ (told (reading .answer) .number ≡ 0 → Held reading (tables (now twin) (now vert) (now edge)) (now points)) ⌝ }
-    ensures { λ r.
-        let held = tables (now (twin .entry)) (now (vert .entry)) (now (edge .entry)) in
-        ⌜ Small r × (checkedListing r ≡ readListing reading held (now (points .entry))) ⌝ }
-{
-    let answer = reading.answer;
-    if answer.number() != 0 {
-        return check::answered(answer, twin, 0);
-    }
-    let halfedges = reading.halfedges;
-    let coordinates = 3 * reading.vertices;
-    cage::check_cage(
-        &twin[..halfedges],
-        &vert[..halfedges],
-        &edge[..halfedges],
-        &points[..coordinates],
-    )
+    intake::check_file(file, &mut twin, &mut vert, &mut edge, &mut points)
 }
 
 // The reply to a cage that was checked.

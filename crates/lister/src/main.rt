@@ -1,7 +1,7 @@
 // The level lister: one cage file on standard input, the counts of its seven levels on standard output.
 ghost use Prim.Native.Nat.{_<_};
 ghost use lib.ListN.{length};
-ghost use Rattle.lister.specs.Internal.Buffer.{longest};
+ghost use Rattle.intake.specs.Internal.Buffer.{longest};
 
 mod listing;
 
@@ -14,7 +14,7 @@ fn main() {
 }
 
 // Lists what standard input holds, as much as the buffer takes: past the longest file that reads more bytes change nothing
-// (`front-listed`).
+// (`front-replied`).
 fn list_input(file: &mut [u8])
     requires { ⌜ longest < length (now file) ⌝ }
 {

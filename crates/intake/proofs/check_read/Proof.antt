@@ -1,17 +1,17 @@
 -- Where the file reads, the cage at the tables' fronts is checked; where it does not, there is none.
 use borrow.Author.Needs.{needs}
-use mathlib.Core.Path.{_≡_, sym, ap, _∙_}
+use mathlib.Core.Path.{_≡_, sym, _∙_}
 use lib.IntN.{ℤ}
 use mathlib.Core.List.{List}
 use native.Mathlib.Omega.{arith}
 use lib.Seq.{length-take-le}
-use Rattle.halfedges.specs.Refusals.{told, said}
+use Rattle.halfedges.specs.Refusals.{told}
 use Rattle.tables.specs.Tables.{Tables, tables}
 use Rattle.reading.specs.declared.Reading.{Reading}
-use Rattle.lister.specs.Internal.Steps.{Held}
-use Rattle.lister.proofs.Outcomes.{cage-reply, cage-small, unread-checked, read-reply}
-use Rattle.lister.proofs.listing.check_read.Statement.{statement}
-use Rattle.lister.proofs.listing.check_read.Tie as tie
+use Rattle.intake.specs.Internal.Steps.{Held}
+use Rattle.intake.proofs.Outcomes.{unread-checked, read-checked}
+use Rattle.intake.proofs.check_read.Statement.{statement}
+use Rattle.intake.proofs.check_read.Tie as tie
 
 -- where the file reads
 module _ (i : tie.Else1) where
@@ -40,10 +40,9 @@ answered-requires : tie.Need-answered-requires
 answered-requires c κs = search needs
 
 returns : tie.Need-returns
-unfolding said
 returns c =
     let n = c .before .before in
-    unread-checked (n .before .before .before .before .args .reading) _ _ (c .answered .result) (ap (λ s. s .verdict) (c .answered .ensures)) (λ z. c .before .if1 .taken (n .number .ensures ∙ z))
+    unread-checked (n .before .before .before .before .args .reading) _ _ (c .answered .result) _ (c .answered .ensures) (λ z. c .before .if1 .taken (n .number .ensures ∙ z))
 
 mul-coordinates : tie.Need-mul-coordinates
 mul-coordinates c = omega (arith, fits (c .before) .coordinates)
@@ -66,9 +65,7 @@ check-cage-requires c κs = search needs
 returns-2 : tie.Need-returns-2
 returns-2 c =
     let i = c .before .before .before .before .before .before in
-    let r = c .check-cage .result in
-    let e = c .check-cage .ensures in
-    (cage-small _ _ r e, cage-reply _ _ r e ∙ read-reply (read i) (held i) (points i) (passed i))
+    c .check-cage .ensures ∙ read-checked (read i) (held i) (points i) (passed i)
 
 pub check-read-spec : {M : Type 1} → statement M
 check-read-spec =

@@ -1,0 +1,47 @@
+// A cage file taken in: read into tables that have room for any cage, and checked.
+ghost use mathlib.Core.Path.{_≡_};
+ghost use Rattle.halfedges.specs.Refusals.{told};
+ghost use Rattle.tables.specs.Tables.{tables};
+ghost use Rattle.tables.specs.Check.{checked as Check·checked};
+ghost use Rattle.intake.specs.Intake.{checkFile};
+ghost use Rattle.intake.specs.Internal.Steps.{Ample, Held, readChecked, Taken};
+use reading::Reading;
+use tables::check;
+use tables::check::Checked;
+
+// The check of the cage in a file. Where it is accepted, it stands at the fronts of the tables.
+pub fn check_file(
+    file: &[u8],
+    twin: &mut [u32],
+    vert: &mut [u32],
+    edge: &mut [u32],
+    points: &mut [i32],
+) -> Checked
+    requires { ⌜ Ample (tables (now twin) (now vert) (now edge)) (now points) ⌝ }
+    ensures { λ r. ⌜ Check·checked r ≡ checkFile (now (file .entry)) ⌝ }
+    ensures { λ r. ⌜ Taken (now (file .entry)) r (now (vert .exit)) (now (points .exit)) ⌝ }
+{
+    let reading = reading::read(file, &mut *twin, &mut *vert, &mut *edge, &mut *points);
+    check_read(reading, &*twin, &*vert, &*edge, &*points)
+}
+
+// The check of the cage that stands at the fronts of the tables, where the file reads; else its refusal.
+fn check_read(reading: Reading, twin: &[u32], vert: &[u32], edge: &[u32], points: &[i32]) -> Checked
+    requires { ⌜ (told (reading .answer) .number ≡ 0 → Held reading (tables (now twin) (now vert) (now edge)) (now points)) ⌝ }
+    ensures { λ r.
+        ⌜ Check·checked r
+        ≡ readChecked reading (tables (now (twin .entry)) (now (vert .entry)) (now (edge .entry))) (now (points .entry)) ⌝ }
+{
+    let answer = reading.answer;
+    if answer.number() != 0 {
+        return check::answered(answer, twin, 0);
+    }
+    let halfedges = reading.halfedges;
+    let coordinates = 3 * reading.vertices;
+    cage::check_cage(
+        &twin[..halfedges],
+        &vert[..halfedges],
+        &edge[..halfedges],
+        &points[..coordinates],
+    )
+}
