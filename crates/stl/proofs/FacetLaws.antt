@@ -1,10 +1,11 @@
 -- Facets, as floats and as bytes. Assumes nothing.
 --     unit-kept, point-floats, facet-floats   the floats of a point and of a facet
 --     facet-numbers, facet-bytes        a facet's floats are numbers, and have the definition's bytes
+--     triangle-placed, filled-as        the corners of a triangle
 --     five-written                      a facet's five parts
 --     facet-written, facets-keep        one more facet
 --     head-written, file-written        the head, and the whole file
---     file-length                       how long it is
+--     head-length, file-length          how long they are
 --     zeros-more                        one more zero
 use Prim.Native.Nat.{ℕ, zero, suc, _+_, _-_, _*_, _≤_, _<_}
 use mathlib.Core.Path.{_≡_, refl, sym, subst, ap, ap₂, _∙_}
@@ -34,7 +35,7 @@ use Rattle.cagefile.specs.Numbers.{u16, u32}
 use Rattle.floats.specs.Floats.{sizeBits, floatBits, floatOf}
 use Rattle.stl.specs.declared.facets.Facet.{Facet}
 use Rattle.stl.specs.File.{facetUnits, unitBytes, facetBytes, facetAt, stlHead, stlFile}
-use Rattle.stl.specs.Internal.Facets.{floats, floatBytes, Numbers, Filled, Ranged}
+use Rattle.stl.specs.Internal.Facets.{floats, floatBytes, Numbers, Filled, Ranged, Placed, Drawn}
 use Rattle.floats.proofs.Exact.{float-bits, float-number}
 
 -- ---- floats and units
@@ -108,6 +109,10 @@ module _ {points : List ℤ} (ranged : Ranged points) {c : List ℕ} {f : Facet}
   unfolding facetBytes
   facet-bytes = ap (λ bs. bs ++ u16 0) (ap (flatMap floatBytes) (e .same) ∙ bytes-of (facetUnits points c) (facet-ranged points c ranged))
 
+-- each triangle's corners have their points
+pub triangle-placed : (vert : List ℕ) (points : List ℤ) → Drawn vert points → {c : List ℕ} (t : ℕ) → 3 * t + 2 < length vert → c ≡ corners vert t → Placed points c
+triangle-placed vert points d t l e = rw e (d .placed (3 * t) (omega arith), d .placed (3 * t + 1) (omega arith), d .placed (3 * t + 2) l)
+
 -- the same corners
 pub filled-as : {points : List ℤ} {c e : List ℕ} {f : Facet} → c ≡ e → Filled points c f → Filled points e f
 filled-as p f = rw p at f
@@ -129,6 +134,10 @@ five-written d l₁ l₂ l₃ l₄ l₅ n x y z w p q r s e₁ e₂ e₃ e₄ e�
 pub facet-length : (points : List ℤ) (c : List ℕ) → length (facetBytes points c) ≡ 50
 unfolding facetBytes flatMap unitBytes
 facet-length points c = refl
+
+pub head-length : (count : ℕ) → length (stlHead count) ≡ 84
+unfolding stlHead
+head-length count = refl
 
 module _ (vert : List ℕ) (points : List ℤ) where
   -- the facets of the first n triangles
@@ -153,18 +162,18 @@ module _ (vert : List ℕ) (points : List ℤ) where
   facets-keep d l n h e = ap length e ∙ length-inFront (facets n) d (rw (facets-length n) h)
 
   pub file-length : length (stlFile vert points) ≡ 84 + 50 * F (length vert)
-  unfolding stlFile stlHead
+  unfolding stlFile
   file-length =
       let count = F (length vert) in
-      omega (arith, length-append (stlHead count) (facets count), facets-length count)
+      omega (arith, length-append (stlHead count) (facets count), head-length count, facets-length count)
 
   -- the facets after the head
   pub file-written : (d g m : List ℕ) → g ≡ inFront (stlHead (F (length vert))) d → m ≡ inFront (facets (F (length vert))) (midOf 84 (length g - 84) g)
       → putMid 84 (length g - 84) g m ≡ inFront (stlFile vert points) d
-  unfolding stlFile stlHead
+  unfolding stlFile
   file-written d g m w x =
       let count = F (length vert) in
-      rw x (splice-part g (facets count) 84 ∙ over-more d g (stlHead count) (facets count) 84 w refl)
+      rw x (splice-part g (facets count) 84 ∙ over-more d g (stlHead count) (facets count) 84 w (head-length count))
 
 -- the count after the zeros
 pub head-written : (d f : List ℕ) (count : ℕ) → f ≡ inFront (replicate 80 0) d → splice f 80 (u32 count) ≡ inFront (stlHead count) d

@@ -1,6 +1,6 @@
 -- Which check of writing is given, as the code goes. Assumes nothing.
 --     shape-given, limit-given, corner-given, points-given     1, 2, 4, and where none of them is given 8
---     checked-ready                                            what they leave where all are passed
+--     checked-ready, in-range                                  what they leave where all are passed
 --     level-refused, file-short, file-roomy                    all of them, and then 9
 --     stl-ready                                                what is left where writing is done
 use Prim.Native.Nat.{ℕ, zero, suc, _+_, _*_, _%_, _≤_, _<_, zero-le, suc-le-suc}
@@ -19,7 +19,7 @@ use Rattle.halfedges.specs.Cage.{F, cell}
 use Rattle.halfedges.specs.Refusals.{Verdict, DONE, SHAPE, LIMIT, VERTEX, POINT, ROOM, told, given, givenAt, short, first}
 use Rattle.halfedges.proofs.Checks.{Clean, answered, passed-on, given-alone, first-more, first-stops, done-both, done-passes, done-nowhere}
 use Rattle.halfedges.proofs.Told.{zero-done}
-use Rattle.points.specs.Operations.{most-coordinate, vertices, unshaped, outOfRange}
+use Rattle.points.specs.Operations.{most-coordinate, vertices, unshaped, outOfRange, InRange}
 use Rattle.stl.specs.File.{stlFile}
 use Rattle.stl.specs.Writing.{longest, pastPoints, stlChecks, stlVerdict}
 use Rattle.stl.specs.Internal.Facets.{Ranged, Ready}
@@ -65,14 +65,17 @@ unfolding pastPoints
 all-placed vert points c h l = omega (arith, leb-false (vertices points) (cell vert h) (c h l))
 
 -- past the end nothing is out of range
-everywhere : (zs : List ℤ) → ((i : ℕ) → i < length zs → natAbs (getD zs i (pos 0)) ≤ most-coordinate) → (i : ℕ) → natAbs (getD zs i (pos 0)) ≤ most-coordinate
-everywhere [] f i = lit≤ tt
-everywhere (z ∷ zs) f zero = f 0 (suc-le-suc zero-le)
-everywhere (z ∷ zs) f (suc i) = everywhere zs (λ j l. f (suc j) (suc-le-suc l)) i
+pub in-range : (points : List ℤ) → InRange points → Ranged points
+in-range points f = record { at = everywhere points f }
+  where
+    everywhere : (zs : List ℤ) → InRange zs → (i : ℕ) → natAbs (getD zs i (pos 0)) ≤ most-coordinate
+    everywhere [] g i = lit≤ tt
+    everywhere (z ∷ zs) g zero = g 0 (suc-le-suc zero-le)
+    everywhere (z ∷ zs) g (suc i) = everywhere zs (λ j l. g (suc j) (suc-le-suc l)) i
 
 all-ranged : (points : List ℤ) → Clean (length points) (outOfRange points) → Ranged points
 unfolding outOfRange
-all-ranged points c = record { at = everywhere points (λ i l. ltb-false most-coordinate (natAbs (getD points i (pos 0))) (c i l)) }
+all-ranged points c = in-range points (λ i l. ltb-false most-coordinate (natAbs (getD points i (pos 0))) (c i l))
 
 some-triangle : (vert : List ℕ) (points : List ℤ) → unshaped vert points ≡ false → 3 ≤ length vert
 unfolding unshaped
@@ -90,8 +93,7 @@ checked-ready vert points e =
     record {
       some = some-triangle vert points (shape .0);
       few = ltb-false longest (length vert) (limit .0);
-      placed = all-placed vert points (corners .0);
-      ranged = all-ranged points (range .0);
+      drawn = record { placed = all-placed vert points (corners .0); ranged = all-ranged points (range .0) };
     }
 
 -- ---- 9

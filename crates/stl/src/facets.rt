@@ -8,9 +8,11 @@ ghost use Rattle.laws.specs.Internal.Parts.{splice};
 ghost use Rattle.points.specs.NextPoints.{pointOf};
 ghost use Rattle.cagefile.specs.Numbers.{u16};
 ghost use Rattle.floats.specs.Floats.{floatOf};
-ghost use Rattle.stl.specs.Internal.Facets.{floats, floatBytes, Number, Numbers, Filled, Ranged, Placed};
+ghost use Rattle.stl.specs.File.{facetAt};
+ghost use Rattle.stl.specs.Internal.Facets.{floats, floatBytes, Number, Numbers, Filled, Ranged, Placed, Drawn};
 use cagefile::numbers;
 use floats::coordinate;
+use halfedges::corners;
 
 // What a facet takes: twelve floats and a zero word.
 pub const FACET: usize = 50;
@@ -87,4 +89,13 @@ pub fn put_facet(part: &mut [u8], facet: Facet)
     put_floats(&mut *part, 24, facet.bx, facet.by, facet.bz);
     put_floats(&mut *part, 36, facet.cx, facet.cy, facet.cz);
     numbers::put_number(&mut *part, 48, 0);
+}
+
+// A triangle's facet into the front of a lent part.
+pub fn put_triangle(part: &mut [u8], vert: &[u32], points: &[i32], triangle: usize)
+    requires { ⌜ (50 ≤ length (now part)) × (3 * triangle + 2 < length (now vert)) × (Drawn (now vert) (now points)) ⌝ }
+    ensures { λ _. ⌜ now (part .exit) ≡ inFront (facetAt (now (vert .entry)) (now (points .entry)) triangle) (now (part .entry)) ⌝ }
+{
+    let facet = facet_of(points, corners::corners_of(vert, triangle));
+    put_facet(&mut *part, facet);
 }

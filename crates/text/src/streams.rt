@@ -61,11 +61,18 @@ pub fn say(text: &[u8], status: usize) {
         end(status);
         return;
     }
-    if !io::write_all(STDOUT_FILENO, text) {
-        fail(b"ryebadger: standard output cannot be written\n");
-        return;
+    if put(text) {
+        end(status);
     }
-    end(status);
+}
+
+// Puts a part of an answer on standard output; where that fails it is told, and the program is to put nothing more.
+pub fn put(part: &[u8]) -> bool {
+    if !io::write_all(STDOUT_FILENO, part) {
+        fail(b"ryebadger: standard output cannot be written\n");
+        return false;
+    }
+    true
 }
 
 // Says which stream failed.
@@ -75,6 +82,6 @@ fn fail(message: &[u8]) {
 }
 
 // Hands the status over to the command.
-fn end(status: usize) {
+pub fn end(status: usize) {
     io::print_decimal(STATUS_FILENO, status as u64);
 }

@@ -44,9 +44,13 @@ pub record Ranged (zs : List ℤ) : Type 0 where
 abbrev pub Placed : List ℤ → List ℕ → Type 0
 Placed points c = (3 * cell c 0 + 2 < length points) × (3 * cell c 1 + 2 < length points) × (3 * cell c 2 + 2 < length points)
 
+-- the corners of a table have their points, all in range
+pub record Drawn (vert : List ℕ) (points : List ℤ) : Type 0 where
+  pub placed : (h : ℕ) → h < length vert → 3 * cell vert h + 2 < length points
+  pub ranged : Ranged points
+
 -- a table and points that pass 1 to 8
 pub record Ready (vert : List ℕ) (points : List ℤ) : Type 0 where
   pub some : 3 ≤ length vert
   pub few : length vert ≤ longest
-  pub placed : (h : ℕ) → h < length vert → 3 * cell vert h + 2 < length points
-  pub ranged : Ranged points
+  pub drawn : Drawn vert points

@@ -9,14 +9,10 @@ use lib.ListN.{length}
 use Rattle.laws.specs.Parts.{inFront}
 use Rattle.halfedges.specs.Cage.{F}
 use Rattle.halfedges.specs.Corners.{corners}
-use Rattle.stl.specs.Internal.Facets.{Filled, Placed, Ready}
-use Rattle.stl.proofs.FacetLaws.{filled-as, facet-numbers, facet-bytes, facets, facet-written, facets-keep}
+use Rattle.stl.specs.Internal.Facets.{Filled}
+use Rattle.stl.proofs.FacetLaws.{triangle-placed, filled-as, facet-numbers, facet-bytes, facets, facet-written, facets-keep}
 use Rattle.stl.proofs.file.put_facets.Statement.{statement}
 use Rattle.stl.proofs.file.put_facets.Tie as tie
-
--- each triangle's corners have their points
-triangle-placed : (vert : List ℕ) (points : List ℤ) → Ready vert points → {c : List ℕ} (t : ℕ) → 3 * t + 2 < length vert → c ≡ corners vert t → Placed points c
-triangle-placed vert points r t l e = rw e (r .placed (3 * t) (omega arith), r .placed (3 * t + 1) (omega arith), r .placed (3 * t + 2) l)
 
 abbrev Inv-loop : tie.InvT-loop
 Inv-loop part₀ vert points last facet₀ triangle₀ part facet triangle =
@@ -45,7 +41,7 @@ corners-of-requires c κs = search needs
 facet-of-requires : tie.Need-facet-of-requires Inv-loop μ-loop
 facet-of-requires c κs =
     let s = c .before .before .before in
-    (triangle-placed (s .args .vert .now) (s .args .points .now) (s .pre .0) 0 (omega arith) (c .corners-of .ensures), s .pre .0 .ranged)
+    (triangle-placed (s .args .vert .now) (s .args .points .now) (s .pre .0 .drawn) 0 (omega arith) (c .corners-of .ensures), s .pre .0 .drawn .ranged)
 
 loop-holds : tie.Need-loop-holds Inv-loop μ-loop
 loop-holds c = (omega arith, refl, refl, filled-as (c .before .corners-of .ensures) (c .facet-of .ensures))
@@ -59,7 +55,7 @@ corners-of-requires-2 c κs = search needs
 facet-of-requires-2 : tie.Need-facet-of-requires-2 Inv-loop μ-loop
 facet-of-requires-2 c κs =
     let l = c .before .before in
-    (triangle-placed (vert l) (points l) (start l .pre .0) (l .loop .triangle + 1) (omega arith) (c .corners-of2 .ensures), start l .pre .0 .ranged)
+    (triangle-placed (vert l) (points l) (start l .pre .0 .drawn) (l .loop .triangle + 1) (omega arith) (c .corners-of2 .ensures), start l .pre .0 .drawn .ranged)
 
 mul-at : tie.Need-mul-at Inv-loop μ-loop
 mul-at c = search needs
@@ -76,7 +72,7 @@ part-put-facet-end c = search needs
 put-facet-requires : tie.Need-put-facet-requires Inv-loop μ-loop
 put-facet-requires c κs =
     let l = c .before .before .before .before in
-    (search needs, facet-numbers (start l .pre .0 .ranged) (l .loop .inv .3))
+    (search needs, facet-numbers (start l .pre .0 .drawn .ranged) (l .loop .inv .3))
 
 add-triangle : tie.Need-add-triangle Inv-loop μ-loop
 add-triangle c = search needs
@@ -89,7 +85,7 @@ loop-again c =
     let put = c .before .before in
     let next = put .before .before in
     let l = next .before .before .before in
-    let e = facet-written (vert l) (points l) (start l .args .part .now) (l .loop .part) _ _ (l .loop .triangle) (l .loop .inv .2) (put .put-facet .ensures) (facet-bytes (start l .pre .0 .ranged) (l .loop .inv .3)) in
+    let e = facet-written (vert l) (points l) (start l .args .part .now) (l .loop .part) _ _ (l .loop .triangle) (l .loop .inv .2) (put .put-facet .ensures) (facet-bytes (start l .pre .0 .drawn .ranged) (l .loop .inv .3)) in
     (omega arith, facets-keep (vert l) (points l) _ _ (l .loop .triangle + 1) (omega arith) e, e, filled-as (next .before .corners-of2 .ensures) (next .facet-of2 .ensures))
 
 mul-at-2 : tie.Need-mul-at-2 Inv-loop μ-loop
@@ -107,7 +103,7 @@ part-put-facet-end-2 c = search needs
 put-facet-requires-2 : tie.Need-put-facet-requires-2 Inv-loop μ-loop
 put-facet-requires-2 c κs =
     let l = c .before .before in
-    (search needs, facet-numbers (start l .pre .0 .ranged) (l .loop .inv .3))
+    (search needs, facet-numbers (start l .pre .0 .drawn .ranged) (l .loop .inv .3))
 
 same-length : tie.Need-same-length Inv-loop μ-loop
 same-length c = search needs
@@ -122,7 +118,7 @@ returns c =
     let all : n + 1 ≡ F (length (vert l)) = omega arith in
     let so-far : l .loop .part ≡ inFront (facets (vert l) (points l) n) d = l .loop .inv .2 ∙ ap (λ k. inFront (facets (vert l) (points l) k) d) last in
     let filled = filled-as (ap (corners (vert l)) last) (l .loop .inv .3) in
-    facet-written (vert l) (points l) d (l .loop .part) _ _ n so-far (put .put-facet2 .ensures) (facet-bytes (start l .pre .0 .ranged) filled)
+    facet-written (vert l) (points l) d (l .loop .part) _ _ n so-far (put .put-facet2 .ensures) (facet-bytes (start l .pre .0 .drawn .ranged) filled)
     ∙ ap (λ k. inFront (facets (vert l) (points l) k) d) all
 
 pub put-facets-spec : {M : Type 1} → statement M

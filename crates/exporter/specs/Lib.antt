@@ -1,0 +1,2 @@
+pub mod Exporting
+pub mod Internal
