@@ -68,7 +68,7 @@ const RULES: [(u32, Rule); 6] = [
     (UNUSED, lowest_unused_vertex),
     (EDGE, lowest_bad_edge),
     (FAN, fan::lowest_vertex_without_one_fan),
-    (POINT, lowest_bad_coordinate),
+    (POINT, |cage| lowest_bad_coordinate(&cage.points)),
 ];
 
 /// Refusals 3 to 8, for tables of good shape.
@@ -118,9 +118,9 @@ fn lowest_bad_edge(cage: &Cage) -> Option<usize> {
     })
 }
 
-fn lowest_bad_coordinate(cage: &Cage) -> Option<usize> {
+pub(crate) fn lowest_bad_coordinate(points: &[i32]) -> Option<usize> {
     let range = -COORDINATE_LIMIT..=COORDINATE_LIMIT;
-    cage.points
+    points
         .iter()
         .position(|coordinate| !range.contains(coordinate))
 }

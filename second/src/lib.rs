@@ -21,5 +21,6 @@ pub mod refine;
 pub mod refusal;
 mod sew;
 mod size;
+pub mod stl;
 pub mod suite;
 pub mod tables;

@@ -1,6 +1,7 @@
 //! The command line of the second program. The level lister of document 01
-//! is `second list`, the count question `second counts`; the other commands
-//! are for comparing and trying.
+//! is `second list`, the count question `second counts`, the disk program of
+//! document 02, §2 `second stl`; the other commands are for comparing and
+//! trying.
 
 use std::io::{self, Read, Write};
 use std::process::ExitCode;
@@ -10,9 +11,11 @@ use second::check::{check, CageCounts};
 use second::counter::count_levels;
 use second::file::write_cage_file;
 use second::lister::list_levels;
+use second::stl::level_0_stl;
 use second::suite::{cage_named, suite, SuiteCage};
 
-const USAGE: &str = "usage: second list | second counts | second cage NAME | second suite";
+const USAGE: &str =
+    "usage: second list | second counts | second stl | second cage NAME | second suite";
 
 fn main() -> ExitCode {
     let words: Option<Vec<String>> = std::env::args_os()
@@ -57,6 +60,7 @@ fn output(words: &[&str]) -> Result<Vec<u8>, Trouble> {
         ["list"] => list_levels(&standard_input()?),
         ["counts"] => counts_of(&standard_input()?)?,
         ["suite"] => suite().iter().map(suite_line).collect(),
+        ["stl"] => return Ok(stl_of(&standard_input()?)),
         ["cage", name] => return cage_file(name),
         _ => return Err(Trouble::Usage),
     };
@@ -80,6 +84,11 @@ fn counts_of(question: &[u8]) -> Result<String, Trouble> {
     let no_question = || Trouble::Message("this is no count question".into());
     let counted = count_levels(question).ok_or_else(no_question)?;
     Ok(counted.unwrap_or_else(|refusal| refusal.line()))
+}
+
+/// The STL of level 0 of this cage file, or the refusal's line.
+fn stl_of(file: &[u8]) -> Vec<u8> {
+    level_0_stl(file).unwrap_or_else(|refusal| refusal.line().into_bytes())
 }
 
 /// The name, the lengths of the four tables, and the cage check's answer.

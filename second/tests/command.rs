@@ -3,6 +3,8 @@
 use std::io::Write;
 use std::process::{Command, Output, Stdio};
 
+use second::stl::level_0_stl;
+
 /// Runs the second program with these words and this standard input.
 fn run(words: &[&str], input: &[u8]) -> Output {
     let mut child = Command::new(env!("CARGO_BIN_EXE_second"))
@@ -28,11 +30,12 @@ fn printed(words: &[&str], input: &[u8]) -> String {
 
 #[test]
 fn unknown_usage_is_told() {
-    let unknown: [&[&str]; 5] = [
+    let unknown: [&[&str]; 6] = [
         &[],
         &["lists"],
         &["list", "more"],
         &["counts", "12"],
+        &["stl", "more"],
         &["cage"],
     ];
     for words in unknown {
@@ -51,6 +54,40 @@ fn a_named_cage_is_listed() {
         assert_eq!(listed.lines().count(), 8, "{name}");
     }
     assert_eq!(printed(&["list"], b"x"), "refused 10 0\n");
+}
+
+#[test]
+fn a_named_cage_is_written_as_stl() {
+    for (name, triangles) in [("triangle", 1_u32), ("pillow", 2), ("torus-32x16", 1_024)] {
+        let file = run(&["cage", name], &[]).stdout;
+        let output = run(&["stl"], &file);
+        assert!(
+            output.status.success() && output.stderr.is_empty(),
+            "{name}"
+        );
+        let stl = output.stdout;
+        assert_eq!(stl.len(), 84 + 50 * triangles as usize, "{name}");
+        assert_eq!(stl[80..84], triangles.to_le_bytes(), "{name}");
+        assert_eq!(Ok(stl), level_0_stl(&file), "{name}");
+    }
+}
+
+/// The line is the level lister's.
+#[test]
+fn what_is_no_cage_is_not_written_as_stl() {
+    let triangle = run(&["cage", "triangle"], &[]).stdout;
+    let mut own_twin = triangle.clone();
+    own_twin[12..14].fill(0);
+    let refused = [
+        (&[][..], "refused 10 0\n"),
+        (&triangle[..77], "refused 10 75\n"),
+        (&[&triangle[..], &[0]].concat(), "refused 12 78\n"),
+        (&own_twin, "refused 3 0\n"),
+    ];
+    for (file, line) in refused {
+        assert_eq!(printed(&["stl"], file), line);
+        assert_eq!(printed(&["list"], file), line);
+    }
 }
 
 #[test]

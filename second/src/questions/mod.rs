@@ -1,6 +1,8 @@
 //! For trying what document 01 says: count questions and corner questions; and
-//! what document 02 says: plain triangles.
+//! what document 02 says: plain triangles, to be built and to be written as STL.
 
 pub mod corners;
 pub mod counts;
+mod plain;
+pub mod stl;
 pub mod triangles;

@@ -3,6 +3,9 @@
 
 use super::PlainTriangles;
 use crate::cage::{COORDINATE_LIMIT, HALFEDGE_LIMIT, VERTEX_LIMIT};
+use crate::questions::plain::{
+    add, add_coordinate, add_corner, add_far_point, add_vertices, every_set, Fault,
+};
 use crate::refusal::{DOUBLED, FAN, LIMIT, POINT, SHAPE, UNUSED, VERTEX};
 
 /// Refusal 1: cells that make no triangle, or no point.
@@ -18,12 +21,8 @@ pub(super) fn wrong_lengths() -> Vec<PlainTriangles> {
     wrong.map(|cells| cells.refused(SHAPE, 0)).collect()
 }
 
-/// Adds a fault and leaves what is there already; tells the place that its
-/// refusal has.
-type AddFault = fn(&mut PlainTriangles) -> usize;
-
 /// In the order in which they have to be found.
-const FAULTS: [(u32, AddFault); 10] = [
+const FAULTS: [Fault; 10] = [
     (SHAPE, add_corner),
     (SHAPE, add_coordinate),
     (LIMIT, add_many_triangles),
@@ -33,61 +32,11 @@ const FAULTS: [(u32, AddFault); 10] = [
     (VERTEX, |all| add(all, &[[0, 1, 1]], 2) + 1),
     (UNUSED, |all| add_vertices(all, 1)),
     (FAN, add_bow_tie),
-    (POINT, add_far_point),
+    (POINT, |all| add_far_point(all, COORDINATE_LIMIT + 1)),
 ];
 
-/// Every set of these faults, the first of which has to answer: the lowest
-/// place where two have the same number.
 pub(super) fn several_faults() -> Vec<PlainTriangles> {
-    (0..1_u32 << FAULTS.len()).map(with_faults).collect()
-}
-
-/// A triangle with the faults of the bits that are set, the last added first:
-/// a wrong length is wrong at the end.
-fn with_faults(bits: u32) -> PlainTriangles {
-    let name = format!("faults-{bits:010b}");
-    let mut all = PlainTriangles::new(name, vec![0, 1, 2], vec![0; 9]).accepted();
-    let mut first = None;
-    for (bit, &(number, add_fault)) in FAULTS.iter().enumerate().rev() {
-        if bits >> bit & 1 == 1 {
-            let place = add_fault(&mut all);
-            first = match first {
-                Some((same, lower)) if same == number => Some((same, place.min(lower))),
-                _ => Some((number, place)),
-            };
-        }
-    }
-    match first {
-        Some((number, place)) => all.refused(number, place),
-        None => all,
-    }
-}
-
-/// Adds vertices at the origin; the number of the first.
-fn add_vertices(all: &mut PlainTriangles, count: usize) -> usize {
-    let first = all.points.len() / 3;
-    all.points.resize(3 * (first + count), 0);
-    first
-}
-
-/// Adds so many vertices, and triangles whose corners count from the first of
-/// them; the number of the first halfedge.
-fn add(all: &mut PlainTriangles, triangles: &[[u32; 3]], count: usize) -> usize {
-    let (h, vertex) = (all.vert.len(), add_vertices(all, count));
-    let corners = triangles.as_flattened().iter();
-    all.vert
-        .extend(corners.map(|corner| vertex as u32 + corner));
-    h
-}
-
-fn add_corner(all: &mut PlainTriangles) -> usize {
-    all.vert.push(0);
-    0
-}
-
-fn add_coordinate(all: &mut PlainTriangles) -> usize {
-    all.points.push(0);
-    0
+    every_set(&FAULTS)
 }
 
 /// The same triangle again and again: H alone is above its limit.
@@ -105,11 +54,4 @@ fn add_bow_tie(all: &mut PlainTriangles) -> usize {
     let shared = all.points.len() / 3;
     add(all, &[[0, 1, 2], [0, 3, 4]], 5);
     shared
-}
-
-fn add_far_point(all: &mut PlainTriangles) -> usize {
-    add(all, &[[0, 1, 2]], 3);
-    let index = all.points.len() - 5;
-    all.points[index] = COORDINATE_LIMIT + 1;
-    index
 }

@@ -6,43 +6,7 @@ mod drawn;
 mod faults;
 mod renumbered;
 
-use crate::refusal::Refusal;
-use crate::suite::Expected;
-
-/// VERT and the points, and what building has to answer where there is room.
-#[derive(Clone, Debug)]
-pub struct PlainTriangles {
-    pub name: String,
-    pub vert: Vec<u32>,
-    pub points: Vec<i32>,
-    pub expected: Expected,
-}
-
-impl PlainTriangles {
-    /// Named triangles, of which no answer is known beforehand.
-    fn new(name: impl ToString, vert: Vec<u32>, points: Vec<i32>) -> PlainTriangles {
-        PlainTriangles {
-            name: name.to_string(),
-            vert,
-            points,
-            expected: Expected::Unforeseen,
-        }
-    }
-
-    fn accepted(self) -> PlainTriangles {
-        PlainTriangles {
-            expected: Expected::Accepted,
-            ..self
-        }
-    }
-
-    fn refused(self, number: u32, place: usize) -> PlainTriangles {
-        PlainTriangles {
-            expected: Expected::Refused(Refusal::new(number, place)),
-            ..self
-        }
-    }
-}
+pub use super::plain::PlainTriangles;
 
 /// Corner numbers at which bits come to their end.
 const TELLING: [u32; 16] = [
