@@ -87,8 +87,8 @@ pub fn of_stl(written: Writing) -> [u32; 3]
 {
     let told = written.answer;
     let number = told.number() as u32;
-    let place = place_cell(told.place());
-    [number, place, written.length as u32]
+    let cell = place_cell(told.place());
+    [number, cell, written.length as u32]
 }
 
 // What stands at a place of an answer with counts: number, place, H, E and V of the seven levels, the two rooms.

@@ -26,11 +26,11 @@ use Rattle.tables.specs.Tables.{Tables}
 use Rattle.splitting.specs.NextLevel.{newVert, nextVerts, level}
 use Rattle.levels.specs.Refining.{levelsEndToEnd}
 use Rattle.splitting.proofs.Rows.{at-across, at-back, at-middle}
-use Rattle.points.specs.NextPoints.{newPoint, nextPoints, levelPoints}
+use Rattle.points.specs.NextPoints.{nextPoints, levelPoints}
 use Rattle.points.specs.Internal.Relied.{Fourfold}
 use Rattle.passes.specs.declared.level.Level.{Level}
 use Rattle.passes.specs.Internal.Levels.{pointsAt, nextEnd, withNext, Ready, tablesAt, withNextAt, ReadyLevel, cageLevel, nextLevel, Climbs, cageOf, cageCorners, pointLevels, withLevels, ReadyLevels}
-use Rattle.points.proofs.Range.{levels-in-range}
+use Rattle.points.proofs.Range.{level-points-long, levels-in-range}
 
 -- VERT of a level's next one: the rows of document 01
 next-fourfold : (vert edge : List ℕ) (v : ℕ) → length vert % 3 ≡ 0 → length edge ≡ length vert → Fourfold (length vert) (nextVerts vert edge v)
@@ -95,9 +95,7 @@ module _ (t : HalfedgeTable) (depth : ℕ) (lent : Tables) (points : List ℤ) (
   cage-long = length-take-le (3 * t .vertices) points (omega (arith, room-for 1 (omega arith)))
 
   level-long : (d : ℕ) → length (P d) ≡ 3 * Vs t d
-  unfolding levelPoints countsAt nextPoints
-  level-long zero = cage-long
-  level-long (suc d) = length-tabulate (3 * (countsAt t d .vertices + countsAt t d .edges)) (λ i. newPoint (countsAt t d) (level t c d) (P d) (i / 3) (i % 3))
+  level-long = level-points-long t c (take (3 * t .vertices) points) cage-long
 
   -- where level n's points start
   levels-long : (n : ℕ) → length (pointLevels t lent points n) ≡ 3 * sum n (Vs t)

@@ -1,6 +1,7 @@
 -- Rule 8 holds at every level: from a level's points in range the next level's are (`next-in-range`), and so are those of
--- every depth (`levels-in-range`). Assumes nothing.
+-- every depth (`levels-in-range`); how many coordinates a level has (`level-points-long`). Assumes nothing.
 use Prim.Native.Nat.{ℕ, zero, suc, _+_, _*_, _/_, _%_, _≤_, _<_}
+use mathlib.Core.Path.{_≡_}
 use mathlib.Core.List.{List, map}
 use native.Mathlib.Decide.{decLt}
 use native.Mathlib.Omega.{arith}
@@ -12,7 +13,7 @@ use Rattle.laws.proofs.Cases.{cond-keeps}
 use Rattle.laws.proofs.Tabulate.{length-tabulate, getD-tabulate}
 use Rattle.halfedges.specs.declared.table.HalfedgeTable.{HalfedgeTable}
 use Rattle.halfedges.specs.Cage.{border}
-use Rattle.halfedges.specs.Counts.{countsAt}
+use Rattle.halfedges.specs.Counts.{countsAt, Vs}
 use Rattle.tables.specs.Tables.{Tables}
 use Rattle.splitting.specs.NextLevel.{level}
 use Rattle.points.specs.NextPoints.{coordinate, corners, spokeEnds, creaseEnds, vertexPoint, edgePoint, newPoint, nextPoints, levelPoints}
@@ -68,6 +69,12 @@ unfolding nextPoints
 next-in-range t c relied points range i l =
     let b : i < 3 * (t .vertices + t .edges) = rw (length-tabulate (3 * (t .vertices + t .edges)) (λ j. newPoint t c points (j / 3) (j % 3))) at l in
     rw (getD-tabulate (3 * (t .vertices + t .edges)) (λ j. newPoint t c points (j / 3) (j % 3)) i (pos 0) b) (new-in-range t c relied points range (i % 3) (i / 3))
+
+-- how many coordinates a level has
+pub level-points-long : (t : HalfedgeTable) (c : Tables) (points : List ℤ) → length points ≡ 3 * t .vertices → (d : ℕ) → length (levelPoints t c points d) ≡ 3 * Vs t d
+unfolding levelPoints countsAt nextPoints
+level-points-long t c points e zero = e
+level-points-long t c points e (suc d) = length-tabulate (3 * (countsAt t d .vertices + countsAt t d .edges)) (λ i. newPoint (countsAt t d) (level t c d) (levelPoints t c points d) (i / 3) (i % 3))
 
 pub levels-in-range : (t : HalfedgeTable) (c : Tables) (points : List ℤ) (depth : ℕ) → ((d : ℕ) → d < depth → Relied (countsAt t d) (level t c d)) → InRange points → (d : ℕ) → d ≤ depth → InRange (levelPoints t c points d)
 unfolding levelPoints

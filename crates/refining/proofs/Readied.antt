@@ -12,7 +12,6 @@ use Rattle.laws.specs.Parts.{inFront}
 use Rattle.laws.proofs.Parts.{length-inFront}
 use Rattle.laws.proofs.InFront.{part-inFront, inFront-over}
 use Rattle.laws.proofs.Sums.{sum-grows}
-use Rattle.laws.proofs.Tabulate.{length-tabulate}
 use Rattle.laws.proofs.EndToEnd.{part-of, starts-within, length-multiples}
 use Rattle.halfedges.specs.declared.table.HalfedgeTable.{HalfedgeTable}
 use Rattle.halfedges.specs.declared.table.Levels.{Levels}
@@ -24,7 +23,8 @@ use Rattle.splitting.specs.Internal.InPlace.{Sound}
 use Rattle.levels.specs.Internal.Filling.{tablesInFront}
 use Rattle.levels.specs.Refining.{levelsEndToEnd}
 use Rattle.levels.proofs.Granted.{Granted, granted}
-use Rattle.points.specs.NextPoints.{corners, nextPoints, levelPoints}
+use Rattle.points.specs.NextPoints.{corners, levelPoints}
+use Rattle.points.proofs.Range.{level-points-long}
 use Rattle.points.specs.Operations.{vertices, refineVerdict, refineCage}
 use Rattle.points.specs.Internal.Relied.{Known}
 use Rattle.passes.specs.Internal.Levels.{ReadyLevels, cageOf, withLevels}
@@ -88,10 +88,8 @@ module _ (c : Tables) (points : List ℤ) (depth : ℕ) (x : Tables) (xp : List 
         room = rw (length-inFront points xp (omega (arith, cage-points-fit, points-roomy c points depth x xp e))) (points-roomy c points depth x xp e);
       }
 
-  level-long : (d : ℕ) → length (levelPoints t c points d) ≡ 3 * Vs t d
-  unfolding levelPoints countsAt nextPoints
-  level-long zero = sym threes
-  level-long (suc d) = length-tabulate _ _
+  pub level-long : (d : ℕ) → length (levelPoints t c points d) ≡ 3 * Vs t d
+  level-long = level-points-long t c points (sym threes)
 
   levels-over : withLevels t depth (tablesInFront (levelsEndToEnd t c depth) x) (inFront points xp) ≡ inFront (endToEnd (suc depth) (levelPoints t c points)) xp
   unfolding withLevels
