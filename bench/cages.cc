@@ -48,6 +48,14 @@ Counts Cage::counts() const {
   return {uint32_t(twin.size()), edges, uint32_t(points.size() / 3)};
 }
 
+Tables lent_tables(Counts counts) {
+  size_t halfedges = 7, points = 7;
+  for (int level = 0; level <= kDepth; ++level, counts = counts.finer())
+    halfedges += counts.halfedges, points += 3 * counts.vertices;
+  const std::vector<uint32_t> table(halfedges);
+  return {table, table, table, std::vector<int32_t>(points)};
+}
+
 Cage torus(uint32_t columns) {
   Cage cage = grid(columns, kRows, columns);
   for (uint32_t r = 0; r < kRows; ++r)

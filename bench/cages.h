@@ -32,6 +32,9 @@ struct Cage : Tables {
   Counts counts() const;
 };
 
+// Lent tables of the room for full depth and a few cells past it, which are to stay.
+Tables lent_tables(Counts counts);
+
 // 16 by columns squares of two triangles each: a torus 400 mm wide, every vertex of six corners.
 Cage torus(uint32_t columns);
 

@@ -49,3 +49,11 @@ Answer library_build(const Soup& soup, Joins& lent) {
   ryebadger_build(CELLS(soup.vert), CELLS(soup.points), CELLS(lent.twin), CELLS(lent.edge), answer.data());
   return answer;
 }
+
+Written library_write_stl(const Soup& level, std::vector<uint8_t>& file) {
+  Written answer;
+  static_assert(std::tuple_size<Written>::value == RYEBADGER_WRITE_ANSWER, "writing STL answers as writing does");
+  ryebadger_write_stl(CELLS(level.vert), CELLS(level.points), CELLS(file), answer.data());
+  expect_done("writing STL", answer.data());
+  return answer;
+}

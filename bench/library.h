@@ -8,3 +8,4 @@ void library_check(const Cage& cage);
 void library_write(const Cage& cage, std::vector<uint8_t>& file);
 void library_read(const std::vector<uint8_t>& file, Tables& lent);
 Answer library_build(const Soup& soup, Joins& lent);
+Written library_write_stl(const Soup& level, std::vector<uint8_t>& file);

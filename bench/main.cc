@@ -1,6 +1,5 @@
-// The report: the proved library beside other engines, in refining and in building, its cost by depth, and its other
-// operations by size.
-#include <algorithm>
+// The report: the proved library beside other engines, in refining, in building and in writing STL, its cost by depth, and
+// its other operations by size.
 #include <cmath>
 #include <cstdio>
 #include <cstring>
@@ -12,34 +11,20 @@
 #include "clock.h"
 #include "engines.h"
 #include "library.h"
+#include "rows.h"
+#include "stl.h"
 
 namespace {
 
 constexpr int kSlowRounds = 3;  // of engines that take most of a second
-
-// Lent tables of the room for full depth and a few cells past it, which are to stay.
-Tables lent_tables(Counts counts) {
-  size_t halfedges = 7, points = 7;
-  for (int level = 0; level <= kDepth; ++level, counts = counts.finer())
-    halfedges += counts.halfedges, points += 3 * counts.vertices;
-  const std::vector<uint32_t> table(halfedges);
-  return {table, table, table, std::vector<int32_t>(points)};
-}
 
 void fill(Tables& lent) {
   for (auto* table : {&lent.twin, &lent.vert, &lent.edge}) std::memset(table->data(), 0xab, 4 * table->size());
   std::memset(lent.points.data(), 0xab, 4 * lent.points.size());
 }
 
-struct Engine {
-  const char* name;
-  int rounds;
-  double bar;                              // how many times our time it has to take at least; 0: no bar
-  std::function<double(const Cage&)> run;  // the seconds of refining to full depth
-};
-
 // Ours, which leaves its levels in the first tables, and the others, which get the second ones.
-std::vector<Engine> engines(Tables& levels, Tables& lent) {
+std::vector<Engine<Cage>> engines(Tables& levels, Tables& lent) {
   const auto ours = [&](const Cage& cage) {
     fill(levels);
     return seconds([&] { library_refine(cage, kDepth, levels); });
@@ -83,15 +68,6 @@ std::vector<Engine> engines(Tables& levels, Tables& lent) {
   };
 }
 
-// Best of the rounds of each engine, all in turn.
-std::vector<double> best_of_rounds(const std::vector<Engine>& all, const Cage& cage) {
-  std::vector<double> best(all.size(), HUGE_VAL);
-  for (int round = 0; round < kRounds; ++round)
-    for (size_t i = 0; i < all.size(); ++i)
-      if (round < all[i].rounds) best[i] = std::min(best[i], all[i].run(cage));
-  return best;
-}
-
 void print_cage(const char* name, const Cage& cage, const Tables& lent) {
   const Counts counts = cage.counts();
   std::printf("%s: H %u, E %u, V %u, %u border edges; lent %.1f MB\n", name, counts.halfedges, counts.edges, counts.vertices,
@@ -108,28 +84,12 @@ void print_distance(const Cage& cage, const Tables& levels) {
 }
 #endif
 
-// Whether every bar is met.
-bool print_rows(const std::vector<Engine>& all, const std::vector<double>& closed, const std::vector<double>& open) {
-  std::printf("\nratio: an engine's time over Ryebadger's\n");
-  std::printf("%-38s %10s %7s %10s %7s\n", "engine", "closed ms", "ratio", "open ms", "ratio");
-  bool met = true;
-  for (size_t i = 0; i < all.size(); ++i) {
-    const double ratio = closed[i] / closed[0], open_ratio = open[i] / open[0];
-    std::printf("%-38s %10.2f %7.2f %10.2f %7.2f", all[i].name, 1e3 * closed[i], ratio, 1e3 * open[i], open_ratio);
-    const bool pass = std::min(ratio, open_ratio) >= all[i].bar;
-    if (all[i].bar > 0) std::printf("   at least %.2f: %s", all[i].bar, pass ? "pass" : "MISS");
-    std::printf("\n");
-    met = met && pass;
-  }
-  return met;
-}
-
 bool print_engines() {
   std::printf("\nRefining to depth %d, best of %d rounds in turn (of %d where one takes most of a second), process time\n",
               kDepth, kRounds, kSlowRounds);
   const Cage closed = torus(32), open = sheet(32), hub = wheel(1024);
   Tables levels = lent_tables(closed.counts()), lent = levels;
-  const std::vector<Engine> all = engines(levels, lent);
+  const std::vector<Engine<Cage>> all = engines(levels, lent);
   print_cage("closed cage, a torus", closed, lent);
   const std::vector<double> closed_times = best_of_rounds(all, closed);
 #ifdef HAVE_OPENSUBDIV
@@ -140,7 +100,7 @@ bool print_engines() {
   const std::vector<double> open_times = best_of_rounds(all, open);
   // Compared and not timed: the two cages have no vertex of other than six corners inside.
   levels = lent = lent_tables(hub.counts());
-  for (const Engine& engine : all) engine.run(hub);
+  for (const Engine<Cage>& engine : all) engine.run(hub);
   std::printf("every cell of the C++ engines is the library's, here and on a wheel of 1,024 triangles\n");
   return print_rows(all, closed_times, open_times);
 }
@@ -194,10 +154,10 @@ int main(int count, char** words) try {
     std::fprintf(stderr, "usage: bench/run [--bars]\n");
     return 2;
   }
-  const bool refining = print_engines(), building = print_building();
+  const bool refining = print_engines(), building = print_building(), stl = print_stl();
   print_depths();
   print_operations();
-  return bars && !(refining && building) ? 1 : 0;
+  return bars && !(refining && building && stl) ? 1 : 0;
 } catch (const std::exception& fault) {
   std::fprintf(stderr, "bench/run: %s\n", fault.what());
   return 3;

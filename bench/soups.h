@@ -22,6 +22,9 @@ struct Joins {
 // Number, place, H, E, F, V and B.
 using Answer = std::array<uint32_t, 7>;
 
+// Number, place and length.
+using Written = std::array<uint32_t, 3>;
+
 // Cages of 3,072 halfedges, to be accepted: a closed one, an open one, and one vertex of 1,024 corners.
 std::vector<Soup> accepted_soups();
 
