@@ -1,4 +1,5 @@
-/* example FILE DEPTH: reads a cage file, quotes the room for the depth, refines, and prints H, E and V of each level.
+/* example FILE DEPTH [STL]: reads a cage file, quotes the room for the depth, refines, and prints H, E and V of each level.
+ * With a third argument it writes the last level as STL to the file of that name.
  * Ends with status 1 where the cage or the depth is refused, and with 2 where anything else is wrong. */
 #include "ryebadger.h"
 
@@ -18,8 +19,20 @@ static void end_if_refused(void) {
     if (answer[0] != RYEBADGER_DONE) fprintf(stderr, "refused %u %u\n", answer[0], answer[1]), exit(1);
 }
 
+static void write_stl(const char *name, const uint32_t *corners, size_t h, const int32_t *places, size_t v) {
+    const size_t length = RYEBADGER_STL_LENGTH(h / 3);
+    uint8_t *stl = malloc(length);
+    end_if(stl == NULL, "there is no memory for the STL");
+    ryebadger_write_stl(corners, h, places, 3 * v, /* into */ stl, length, answer);
+    end_if_refused();
+    FILE *out = fopen(name, "wb");
+    end_if(out == NULL, "the STL file cannot be opened");
+    const int is_whole = fwrite(stl, 1, length, out) == length;
+    end_if(fclose(out) != 0 || !is_whole, "the STL file cannot be written");
+}
+
 int main(int argc, char **argv) {
-    end_if(argc != 3, "usage: example FILE DEPTH");
+    end_if(argc != 3 && argc != 4, "usage: example FILE DEPTH [STL]");
     char *rest;
     const uint64_t depth = strtoull(argv[2], &rest, 10);
     end_if(rest == argv[2] || *rest != '\0', "the depth is not a number");
@@ -46,4 +59,8 @@ int main(int argc, char **argv) {
         printf("%u %u %u %u\n", level, answer[RYEBADGER_AT_H + level], answer[RYEBADGER_AT_E + level],
                answer[RYEBADGER_AT_V + level]);
     end_if(fflush(stdout) != 0, "standard output cannot be written");
+    if (argc == 4) { /* the last level stands at the end of the room */
+        const size_t last_h = answer[RYEBADGER_AT_H + depth], last_v = answer[RYEBADGER_AT_V + depth];
+        write_stl(argv[3], lent + 2 * room - last_h, last_h, places + points_room - 3 * last_v, last_v);
+    }
 }

@@ -1,6 +1,6 @@
-/* Ryebadger for C and C++: check, quote, refine, read and write a triangle cage, or build one from plain triangles. The words,
- * numbers and tables are those of document 01, the scope of the build, and of document 02, its requests; what each operation
- * promises here is proved of it.
+/* Ryebadger for C and C++: check, quote, refine, read and write a triangle cage, build one from plain triangles, or write any
+ * level as STL. The words, numbers and tables are those of document 01, the scope of the build, and of document 02, its
+ * requests; what each operation promises here is proved of it.
  *
  * The archive to link is target/host/libryebadger.a, which host/build makes.
  *
@@ -45,6 +45,11 @@ extern "C" {
 #define RYEBADGER_LEVELS 7
 #define RYEBADGER_LONGEST_FILE 43032
 
+/* The longest VERT table that is written as STL, which is that of level 6 of the largest cage, and the bytes of an STL file of
+ * so many triangles. */
+#define RYEBADGER_LONGEST_TABLE 12582912
+#define RYEBADGER_STL_LENGTH(triangles) (84 + 50 * (size_t)(triangles))
+
 /* The numbers of an answer, by the documents' names, with the place that goes with each. Checks run in the order of their
  * numbers, except in reading and in building; the first that holds is the answer. */
 enum ryebadger_number {
@@ -57,14 +62,15 @@ enum ryebadger_number {
     RYEBADGER_EDGE = 6,    /* an edge out of range, unlike the twin's or carried elsewhere: the lowest such halfedge */
     RYEBADGER_FAN = 7,     /* corners at a vertex that are not one fan: the lowest such vertex */
     RYEBADGER_POINT = 8,   /* a coordinate out of range: the lowest such index in the points */
-    RYEBADGER_ROOM = 9,    /* a lent table is too short: the first, as 1 twin, 2 vert, 3 edge, 4 points, 5 file */
+    RYEBADGER_ROOM = 9,    /* a lent table is too short: the first, as 1 twin, 2 vert, 3 edge, 4 points, 5 file, 6 STL file */
     RYEBADGER_SHORT = 10,  /* the file ends before a field's head and payload are whole: the offset of that head */
     RYEBADGER_FIELD = 11,  /* wrong tag, length or form number: the offset of that head */
     RYEBADGER_EXTRA = 12,  /* bytes after the end field: the offset of the first */
     RYEBADGER_DOUBLED = 13 /* two halfedges from the same vertex to the same one: the lowest that has such a double */
 };
 
-/* The lengths of the answers. Building answers as the cage check does, refining as the count question. */
+/* The lengths of the answers. Building answers as the cage check does, refining as the count question, writing STL as writing
+ * a cage file. */
 #define RYEBADGER_CHECK_ANSWER 7
 #define RYEBADGER_COUNTS_ANSWER 25
 #define RYEBADGER_CORNERS_ANSWER 5
@@ -127,6 +133,16 @@ void ryebadger_write(const uint32_t *twin, size_t twin_length, const uint32_t *v
 void ryebadger_build(const uint32_t *vert, size_t vert_length, const int32_t *points, size_t points_length,
                      uint32_t *lent_twin, size_t lent_twin_length, uint32_t *lent_edge, size_t lent_edge_length,
                      uint32_t answer[RYEBADGER_CHECK_ANSWER]);
+
+/* Writing any level as binary STL, from its VERT table and its points. Refusals 1, where VERT is empty or a length is no
+ * multiple of 3; 2, where VERT is longer than RYEBADGER_LONGEST_TABLE; 4, where a corner is past the points; 8, whose place
+ * is 4294967295 also where the index is higher; and 9, with place 6. Nothing else of the level is checked. Done, the value
+ * is the STL file's length, which is 84 + 50F, and the file stands at the front of the lent buffer; bytes past it are
+ * untouched. The file is 80 zero bytes, F in 32 bits, then for each triangle twelve floats of 32 bits, which are a normal of
+ * zero and the three corners as stored, and a zero word of 16 bits, all little-endian. A coordinate is its units divided by
+ * 1024, exactly. */
+void ryebadger_write_stl(const uint32_t *vert, size_t vert_length, const int32_t *points, size_t points_length,
+                         uint8_t *lent_file, size_t lent_file_length, uint32_t answer[RYEBADGER_WRITE_ANSWER]);
 
 #ifdef __cplusplus
 }

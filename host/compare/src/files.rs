@@ -1,4 +1,5 @@
-//! Document 01, "The cage file": files to read, and where their fields stand.
+//! Document 01, "The cage file": files to read, and where their fields stand;
+//! and the length of document 02's STL.
 
 use second::cage::Cage;
 use second::file::write_cage_file;
@@ -9,6 +10,11 @@ pub fn file_of(cage: &Cage) -> Vec<u8> {
     let length = write_cage_file(cage, &mut file).expect("accepted");
     file.truncate(length as usize);
     file
+}
+
+/// The bytes of the STL of a VERT table.
+pub fn stl_length(vert: &[u32]) -> usize {
+    84 + 50 * (vert.len() / 3)
 }
 
 /// The lengths of the tables of a cage.

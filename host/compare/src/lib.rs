@@ -16,7 +16,7 @@ mod suite;
 mod vertices;
 
 pub use asked::{handed, Archive, Operations, SafeCrate, SecondProgram};
-pub use files::{file_of, heads, lengths_of};
+pub use files::{file_of, heads, lengths_of, stl_length};
 pub use outcome::{first_difference, Difference, Outcome};
 pub use process::{repository, run};
 pub use question::Question;

@@ -22,6 +22,8 @@ pub enum Question<'a> {
     /// Building from a VERT table and points, into a TWIN and an EDGE table of
     /// these lengths.
     Build(&'a [u32], &'a [i32], [usize; 2]),
+    /// Writing a VERT table and points as STL, into a buffer of this length.
+    WriteStl(&'a [u32], &'a [i32], usize),
 }
 
 impl Question<'_> {
@@ -48,6 +50,10 @@ impl Question<'_> {
                 left.tables = marked_tables([twin, 0, edge, 0]);
                 asked.build(vert, points, &mut left.tables)
             }
+            Question::WriteStl(vert, points, length) => {
+                left.file = marked_file(length);
+                asked.write_stl(vert, points, &mut left.file)
+            }
         };
         left
     }
@@ -71,6 +77,10 @@ impl Question<'_> {
                 let (h, coordinates) = (vert.len(), points.len());
                 format!("building of {h} and {coordinates} coordinates into {lent:?}")
             }
+            Question::WriteStl(vert, points, lent) => {
+                let (h, coordinates) = (vert.len(), points.len());
+                format!("STL of {h} and {coordinates} coordinates into {lent}")
+            }
         }
     }
 }
@@ -89,5 +99,8 @@ fn marked_tables(lengths: [usize; 4]) -> Cage {
 
 /// A file buffer of this length to lend.
 fn marked_file(length: usize) -> Vec<u8> {
-    (0..length).map(|at| (at % 251) as u8 ^ 0xA5).collect()
+    let marks: Vec<u8> = (0..251).map(|at| at ^ 0xA5).collect();
+    let mut file = marks.repeat(length / marks.len() + 1);
+    file.truncate(length);
+    file
 }

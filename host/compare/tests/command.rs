@@ -1,5 +1,5 @@
-//! The command `ryebadger`: its text is the second program's, on every input;
-//! its statuses are those of the README, each with at most one line on
+//! The command `ryebadger`: its text or bytes are the second program's, on every
+//! input; its statuses are those of the README, each with at most one line on
 //! standard error.
 
 use std::fs;
@@ -12,6 +12,8 @@ use second::counter::count_levels;
 use second::lister::level_lines;
 use second::questions::counts;
 use second::refusal::Refusal;
+use second::stl::level_0_stl;
+use second::suite::SuiteCage;
 
 /// A folder of this test's own, empty, elsewhere than the repository.
 fn folder(name: &str) -> PathBuf {
@@ -21,10 +23,10 @@ fn folder(name: &str) -> PathBuf {
     folder
 }
 
-/// The command, with both of its programs proved: a first run says more.
+/// The command, with each of its programs proved: a first run says more.
 static COMMAND: LazyLock<PathBuf> = LazyLock::new(|| {
     let command = repository().join("ryebadger");
-    for words in [&["list"][..], &["counts", "12", "6", "4", "2"]] {
+    for words in [&["list"][..], &["stl"], &["counts", "12", "6", "4", "2"]] {
         let status = run(Command::new(&command).args(words), b"").status.code();
         assert!(status < Some(2), "{words:?}");
     }
@@ -37,11 +39,20 @@ fn ryebadger() -> Command {
     command
 }
 
+fn text(bytes: &[u8]) -> String {
+    String::from_utf8(bytes.to_vec()).expect("text")
+}
+
+/// The status, and what was said on standard error.
+fn ended(output: &Output) -> (i32, String) {
+    let status = output.status.code().expect("ended by itself");
+    (status, text(&output.stderr))
+}
+
 /// The status, and what was said on the two streams.
 fn told(output: &Output) -> (i32, String, String) {
-    let text = |bytes: &[u8]| String::from_utf8(bytes.to_vec()).expect("text");
-    let status = output.status.code().expect("ended by itself");
-    (status, text(&output.stdout), text(&output.stderr))
+    let (status, said) = ended(output);
+    (status, text(&output.stdout), said)
 }
 
 /// Nothing is said but one line on standard error, which has this in it.
@@ -62,9 +73,27 @@ fn assert_answers(output: &Output, judged: Result<String, Refusal>, name: &str) 
     assert_eq!(told(output), (status, text, String::new()), "{name}");
 }
 
+/// What is written is the second program's: bytes, or a refusal's line with
+/// status 1.
+fn assert_writes(output: &Output, judged: Result<Vec<u8>, Refusal>, name: &str) {
+    match judged {
+        Ok(bytes) => {
+            assert_eq!(ended(output), (0, String::new()), "{name}");
+            // Not assert_eq, which would print both files.
+            assert!(output.stdout == bytes, "{name}");
+        }
+        Err(refusal) => assert_answers(output, Err(refusal), name),
+    }
+}
+
 fn assert_listed(file: &[u8], name: &str) {
     let output = run(ryebadger().arg("list"), file);
     assert_answers(&output, level_lines(file), name);
+}
+
+fn assert_stl(file: &[u8], name: &str) {
+    let output = run(ryebadger().arg("stl"), file);
+    assert_writes(&output, level_0_stl(file), name);
 }
 
 fn assert_counted(words: &[&str]) {
@@ -85,32 +114,62 @@ fn in_shell(script: &str, name: &str) -> Output {
     run(shell.current_dir(folder), b"")
 }
 
-#[test]
-fn accepted_cages_are_listed() {
+/// Some accepted cages, the first of as many halfedges as a cage may have.
+fn accepted_to_try() -> Vec<SuiteCage> {
     let entries = accepted();
-    // One of them has as many halfedges as a cage may have.
     let largest = entries.iter().max_by_key(|entry| entry.cage.twin.len());
     let largest = largest.expect("a suite");
     assert_eq!(largest.cage.twin.len(), 3_072);
-    assert_listed(&file_of(&largest.cage), &largest.name);
-    for entry in entries.iter().step_by(8) {
+    let some = entries.iter().step_by(8);
+    [largest].into_iter().chain(some).cloned().collect()
+}
+
+#[test]
+fn accepted_cages_are_listed() {
+    for entry in accepted_to_try() {
         assert_listed(&file_of(&entry.cage), &entry.name);
     }
 }
 
 #[test]
-fn refused_files_are_told() {
-    let triangle = file_of(&named("triangle"));
-    for length in [0, 1, 8, 9, 38, 77] {
-        assert_listed(&triangle[..length], "cut");
+fn accepted_cages_are_written_as_stl() {
+    for entry in accepted_to_try() {
+        let file = file_of(&entry.cage);
+        assert!(level_0_stl(&file).is_ok(), "{}", entry.name);
+        assert_stl(&file, &entry.name);
     }
-    assert_listed(&[&triangle[..], &[0]].concat(), "longer");
-    assert_listed(&[&triangle[..], &[0; 100_000]].concat(), "much longer");
+}
+
+/// Files that are refused, each with what was done to it.
+fn refused_files() -> Vec<(&'static str, Vec<u8>)> {
+    let triangle = file_of(&named("triangle"));
+    let cut = |length: usize| ("cut", triangle[..length].to_vec());
+    let mut files = [0, 1, 8, 9, 38, 77].map(cut).to_vec();
+    files.push(("longer", [&triangle[..], &[0]].concat()));
+    files.push(("much longer", [&triangle[..], &[0; 100_000]].concat()));
     // A tag, H, TWIN(0), VERT(0), EDGE(0), and a coordinate's last byte.
     for (offset, byte) in [(9, 0x21), (5, 4), (12, 0), (21, 7), (30, 9), (42, 0x7F)] {
         let mut changed = triangle.clone();
         changed[offset] = byte;
-        assert_listed(&changed, "changed");
+        files.push(("changed", changed));
+    }
+    let longest = file_of(&named("most-halfedges-and-vertices"));
+    let last = longest.len() - 1;
+    files.push(("longest, cut", longest[..last].to_vec()));
+    files.push(("longest and a byte", [&longest[..], &[0]].concat()));
+    // The last byte of the last coordinate.
+    let mut changed = longest;
+    changed[last - 3] = 0x7F;
+    files.push(("longest, changed", changed));
+    files
+}
+
+#[test]
+fn refused_files_are_told() {
+    for (name, file) in refused_files() {
+        assert!(level_lines(&file).is_err(), "{name}");
+        assert_listed(&file, name);
+        assert_stl(&file, name);
     }
 }
 
@@ -157,7 +216,7 @@ fn what_is_no_count_question_is_told() {
 
 #[test]
 fn other_words_are_told() {
-    let wrong: [(&[&str], &str); 10] = [
+    let wrong: [(&[&str], &str); 11] = [
         (&[], "no command"),
         (&["corners", "0", "1", "2", "3"], "corners"),
         (&["lists"], "lists"),
@@ -168,6 +227,7 @@ fn other_words_are_told() {
         (&["counts", "12", "6", "4"], "H, E, V and DEPTH"),
         (&["counts", "12", "6", "4", "2", "0"], "H, E, V and DEPTH"),
         (&["list", "one", "two"], "one file"),
+        (&["stl", "one", "two"], "one file"),
     ];
     for (words, part) in wrong {
         assert_fails(&run(ryebadger().args(words), b""), 2, part);
@@ -176,11 +236,12 @@ fn other_words_are_told() {
 
 #[test]
 fn help_is_an_answer() {
-    let wanted: [&[&str]; 5] = [
+    let wanted: [&[&str]; 6] = [
         &["--help"],
         &["-h"],
         &["help"],
         &["list", "--help"],
+        &["stl", "--help"],
         &["counts", "--help"],
     ];
     for words in wanted {
@@ -204,6 +265,11 @@ const PIPE_THAT_NOBODY_READS: &str = "
     }
     exit $(cat status)";
 
+/// The same words of a shell for `stl`, which takes a file as `list` does.
+fn for_stl(script: &str) -> String {
+    script.replace(" list", " stl")
+}
+
 #[test]
 fn a_stream_that_fails_is_told() {
     let failing = [
@@ -212,11 +278,10 @@ fn a_stream_that_fails_is_told() {
             "output cannot be written",
         ),
         (
-            "\"$0\" counts 12 6 4 2 >/dev/full",
+            "head -c 77 triangle.cage | \"$0\" list >/dev/full",
             "output cannot be written",
         ),
         ("\"$0\" list triangle.cage >&-", "output is closed"),
-        ("\"$0\" counts 12 6 4 2 >&-", "output is closed"),
         ("\"$0\" list <&-", "input is closed"),
         ("\"$0\" list - <&-", "input is closed"),
         ("\"$0\" list ''", "cannot be opened"),
@@ -229,13 +294,51 @@ fn a_stream_that_fails_is_told() {
     ];
     for (at, (script, part)) in failing.into_iter().enumerate() {
         assert_fails(&in_shell(script, &format!("failing-{at}")), 3, part);
+        let script = for_stl(script);
+        assert_fails(&in_shell(&script, &format!("failing-stl-{at}")), 3, part);
+    }
+    for (script, part) in [
+        (
+            "\"$0\" counts 12 6 4 2 >/dev/full",
+            "output cannot be written",
+        ),
+        ("\"$0\" counts 12 6 4 2 >&-", "output is closed"),
+    ] {
+        assert_fails(&in_shell(script, "failing-counts"), 3, part);
     }
 }
 
+/// Files of two blocks at most stand for a disk that fills; the cushion's STL
+/// is longer.
+const DISK_THAT_FILLS: &str = "
+    trap '' XFSZ
+    ulimit -f 2 && \"$0\" stl \"${0%/*}/cages/cushion.cage\" >level.stl";
+
 #[test]
-fn a_file_is_listed_from_anywhere() {
-    let lines = level_lines(&file_of(&named("triangle"))).expect("accepted");
-    let listed = [
+fn a_disk_that_fills_midway_is_told() {
+    let output = in_shell(DISK_THAT_FILLS, "filling");
+    assert_fails(&output, 3, "output cannot be written");
+    let folder = Path::new(env!("CARGO_TARGET_TMPDIR")).join("filling");
+    let written = fs::read(folder.join("level.stl")).expect("a file");
+    let whole = level_0_stl(&file_of(&named("cushion"))).expect("accepted");
+    assert!((1_000..whole.len()).contains(&written.len()));
+    assert!(whole.starts_with(&written));
+}
+
+/// Lines may go to a terminal, and bytes that are no text may not. What opens
+/// `/dev/ptmx` has one.
+#[test]
+fn a_terminal_gets_no_stl() {
+    let output = in_shell("\"$0\" stl triangle.cage >/dev/ptmx", "terminal");
+    assert_fails(&output, 2, "bytes, which are no text");
+    let output = in_shell("\"$0\" list triangle.cage >/dev/ptmx", "terminal");
+    assert_eq!(told(&output), (0, String::new(), String::new()));
+}
+
+#[test]
+fn a_file_is_taken_from_anywhere() {
+    let triangle = file_of(&named("triangle"));
+    let scripts = [
         "\"$0\" list triangle.cage",
         "\"$0\" list <triangle.cage",
         "\"$0\" list - <triangle.cage",
@@ -248,9 +351,11 @@ fn a_file_is_listed_from_anywhere() {
         "mkfifo pipe && { cat triangle.cage >pipe & \"$0\" list pipe; }",
         "exec 3<triangle.cage 4<triangle.cage && \"$0\" list triangle.cage",
     ];
-    for (at, script) in listed.into_iter().enumerate() {
+    for (at, script) in scripts.into_iter().enumerate() {
         let output = in_shell(script, &format!("listed-{at}"));
-        assert_answers(&output, Ok(lines.clone()), script);
+        assert_answers(&output, level_lines(&triangle), script);
+        let output = in_shell(&for_stl(script), &format!("stl-{at}"));
+        assert_writes(&output, level_0_stl(&triangle), script);
     }
 }
 

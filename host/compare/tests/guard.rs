@@ -2,7 +2,7 @@
 //! is wrong is said.
 
 use compare::{
-    assert_same, file_of, first_difference, named, room_at, Archive, Outcome, Question,
+    assert_same, file_of, first_difference, named, room_at, stl_length, Archive, Outcome, Question,
     SecondProgram,
 };
 
@@ -34,6 +34,7 @@ fn one_wrong_cell_anywhere_is_reported_there() {
     let cage = named("pillow");
     let file = file_of(&cage);
     let room = room_at(&cage, 1).map(|length| length + 3);
+    let stl = stl_length(&cage.vert);
     for question in [
         Question::Check(&cage),
         Question::Counts([12, 6, 4, 2]),
@@ -46,6 +47,8 @@ fn one_wrong_cell_anywhere_is_reported_there() {
         Question::Write(&cage, file.len() - 1),
         Question::Build(&cage.vert, &cage.points, [room[0], room[2]]),
         Question::Build(&cage.vert, &cage.points, [6, 5]),
+        Question::WriteStl(&cage.vert, &cage.points, stl + 3),
+        Question::WriteStl(&cage.vert, &cage.points, stl - 1),
     ] {
         let judged = question.put_to(&SecondProgram);
         assert_eq!(first_difference(&question.put_to(&Archive), &judged), None);

@@ -1,14 +1,15 @@
 //! The C header and the C examples, compiled without a warning; the examples'
-//! lines are the second program's.
+//! lines and bytes are the second program's.
 
 use std::path::{Path, PathBuf};
 use std::process::{Command, Output};
 use std::sync::LazyLock;
 
-use compare::{file_of, named, repository, run};
+use compare::{file_of, named, repository, room_at, run, stl_length, Question, SecondProgram};
 use second::build::build;
 use second::cage::{Cage, COORDINATE_LIMIT, DEPTH_LIMIT, HALFEDGE_LIMIT, MARKER, VERTEX_LIMIT};
 use second::lister::list_levels;
+use second::stl::VERT_LIMIT;
 use second::suite::suite;
 
 const STRICT: [&str; 4] = ["-Wall", "-Wextra", "-Wpedantic", "-Werror"];
@@ -51,6 +52,11 @@ fn run_example(file: &Path, depth: &str) -> Output {
     run(Command::new(&*EXAMPLE).arg(file).arg(depth), &[])
 }
 
+/// Runs the example on a file, with another for the STL of the last level.
+fn run_example_to_stl(file: &Path, depth: &str, stl: &Path) -> Output {
+    run(Command::new(&*EXAMPLE).arg(file).arg(depth).arg(stl), &[])
+}
+
 /// The header's numbers, as the second program has them.
 #[test]
 fn the_header_in_c_and_in_cxx() {
@@ -63,6 +69,10 @@ fn the_header_in_c_and_in_cxx() {
         ("LEVELS", DEPTH_LIMIT + 1),
         ("MOST_COORDINATE", COORDINATE_LIMIT as u64),
         ("LONGEST_FILE", 24 + 6 * HALFEDGE_LIMIT + 12 * VERTEX_LIMIT),
+        ("LONGEST_TABLE", VERT_LIMIT as u64),
+        ("STL_LENGTH(0)", 84),
+        ("STL_LENGTH(1 + 1)", 184),
+        ("STL_LENGTH(RYEBADGER_LONGEST_TABLE / 3)", 209_715_284),
     ];
     let names = [
         "DONE", "SHAPE", "LIMIT", "TWIN", "VERTEX", "UNUSED", "EDGE", "FAN", "POINT", "ROOM",
@@ -144,6 +154,79 @@ fn the_example_says_what_is_wrong() {
         run(&mut Command::new(&*EXAMPLE), &[]).status.code(),
         Some(2)
     );
+}
+
+/// The second program's STL of a level of a cage.
+fn stl_at(cage: &Cage, depth: u64) -> Vec<u8> {
+    let refining = Question::Refine(cage, depth, room_at(cage, depth));
+    let tables = refining.put_to(&SecondProgram).tables;
+    let before = depth.checked_sub(1).map(|above| room_at(cage, above));
+    let [_, corners, _, coordinates] = before.unwrap_or_default();
+    let (vert, points) = (&tables.vert[corners..], &tables.points[coordinates..]);
+    let writing = Question::WriteStl(vert, points, stl_length(vert));
+    writing.put_to(&SecondProgram).file
+}
+
+#[test]
+fn the_example_writes_the_last_level_as_stl() {
+    let stl = Path::new(env!("CARGO_TARGET_TMPDIR")).join("level.stl");
+    for name in ["triangle", "pillow", "cushion"] {
+        let path = repository().join(format!("cages/{name}.cage"));
+        // The longest first: nothing of it is left behind a shorter one.
+        for depth in (0..=6).rev() {
+            let word = depth.to_string();
+            let output = run_example_to_stl(&path, &word, &stl);
+            assert_eq!(output, run_example(&path, &word), "{name}");
+            assert!(output.status.success(), "{name}");
+            let written = std::fs::read(&stl).expect("a file");
+            // Not assert_eq, which would print both files.
+            assert!(written == stl_at(&named(name), depth), "{name} at {depth}");
+        }
+    }
+    // What is refused is not written.
+    let pillow = repository().join("cages/pillow.cage");
+    std::fs::write(&stl, "before").expect("written");
+    let refused = run_example_to_stl(&pillow, "7", &stl);
+    assert_eq!(refused.status.code(), Some(1));
+    assert_eq!(std::fs::read(&stl).expect("a file"), b"before");
+}
+
+#[test]
+fn the_example_says_why_there_is_no_stl() {
+    let folder = Path::new(env!("CARGO_TARGET_TMPDIR"));
+    let (full, nowhere) = (Path::new("/dev/full"), folder.join("nowhere/level.stl"));
+    // A short file is written when it is closed, most of a long one before.
+    for (name, depth, stl, what) in [
+        ("triangle", "0", full, "written"),
+        ("cushion", "6", full, "written"),
+        ("pillow", "1", &nowhere, "opened"),
+        ("pillow", "1", folder, "opened"),
+        ("pillow", "1", Path::new(""), "opened"),
+    ] {
+        let path = repository().join(format!("cages/{name}.cage"));
+        let output = run_example_to_stl(&path, depth, stl);
+        assert_eq!(output.status.code(), Some(2), "{name}");
+        let line = format!("example: the STL file cannot be {what}\n");
+        assert_eq!(String::from_utf8_lossy(&output.stderr), line);
+        assert_eq!(output.stdout, run_example(&path, depth).stdout);
+    }
+}
+
+/// The cushion's levels to depth 6 need 66 MB, and its STL there 59 MB more.
+#[test]
+fn the_example_tells_that_there_is_no_memory() {
+    let stl = Path::new(env!("CARGO_TARGET_TMPDIR")).join("no-memory.stl");
+    for (kilobytes, what) in [(40_000, "levels"), (100_000, "STL")] {
+        let mut shell = Command::new("sh");
+        let script = format!("ulimit -v {kilobytes} && exec \"$0\" \"$@\"");
+        shell.arg("-c").arg(script).arg(&*EXAMPLE);
+        let cushion = repository().join("cages/cushion.cage");
+        let output = run(shell.arg(cushion).arg("6").arg(&stl), &[]);
+        assert_eq!(output.status.code(), Some(2), "{what}");
+        let line = format!("example: there is no memory for the {what}\n");
+        assert_eq!(String::from_utf8_lossy(&output.stderr), line);
+        assert!(!stl.exists());
+    }
 }
 
 /// Status, standard output and standard error of the example that builds.

@@ -1,10 +1,12 @@
-//! What the safe crate allocates itself: a cage read, a cage built, a file
-//! written, and all levels of a cage.
+//! What the safe crate allocates itself: a cage read, a cage built, a file or
+//! STL written, and all levels of a cage.
 
-use compare::{accepted, file_of, handed, named, refused, room_at, Question, SecondProgram};
-use ryebadger::{OwnedCage, Refined};
+use compare::{
+    accepted, file_of, handed, named, refused, room_at, stl_length, Question, SecondProgram,
+};
+use ryebadger::{Cage, OwnedCage, Refined};
 use second::file::read_cage;
-use second::questions::triangles::questions;
+use second::questions::{stl, triangles};
 
 #[test]
 fn an_owned_cage_is_what_the_second_program_reads() {
@@ -26,7 +28,7 @@ fn an_owned_cage_is_what_the_second_program_reads() {
 #[test]
 fn a_cage_from_triangles_is_what_the_second_program_builds() {
     let mut accepted = 0;
-    for question in questions() {
+    for question in triangles::questions() {
         let (name, vert, points) = (&question.name, &question.vert, &question.points);
         let asked = Question::Build(vert, points, [vert.len(); 2]);
         let judged = asked.put_to(&SecondProgram);
@@ -45,6 +47,40 @@ fn a_cage_from_triangles_is_what_the_second_program_builds() {
         }
     }
     assert!(accepted > 100);
+}
+
+/// The STL of a level is as long as it has to be, or is refused.
+fn assert_stl(name: &str, level: Cage<'_>) {
+    let Cage { vert, points, .. } = level;
+    let asked = Question::WriteStl(vert, points, stl_length(vert));
+    let judged = asked.put_to(&SecondProgram);
+    match level.to_stl() {
+        // Not assert_eq, which would print both files.
+        Ok(file) => assert!(judged.answer[0] == 0 && file == judged.file, "{name}"),
+        Err(refusal) => {
+            let numbers = (refusal.number().into(), refusal.place().into());
+            assert_eq!(numbers, judged.verdict(), "{name}");
+        }
+    }
+}
+
+#[test]
+fn the_stl_of_a_level_is_what_the_second_program_writes() {
+    for entry in accepted().iter().filter(|entry| !entry.is_large()) {
+        let refined = Refined::new(handed(&entry.cage), 4).expect(&entry.name);
+        for level in refined.levels() {
+            assert_stl(&entry.name, level);
+        }
+    }
+    for question in stl::questions().into_iter().chain(stl::long_questions()) {
+        let (vert, points) = (&question.vert, &question.points);
+        let level = Cage {
+            vert,
+            points,
+            ..Cage::default()
+        };
+        assert_stl(&question.name, level);
+    }
 }
 
 /// The levels one after the other are the second program's lent tables.

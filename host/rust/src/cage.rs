@@ -13,6 +13,10 @@ pub const VERTEX_LIMIT: usize = 2_048;
 /// The deepest level that can be asked for.
 pub const DEPTH_LIMIT: usize = 6;
 
+/// The longest VERT table that is written as STL: the deepest level of a cage
+/// of as many halfedges as it may have.
+pub const LONGEST_TABLE: usize = HALFEDGE_LIMIT << (2 * DEPTH_LIMIT);
+
 /// A coordinate lies between minus this number and this number.
 pub const COORDINATE_LIMIT: i32 = 1_048_576;
 

@@ -1,5 +1,5 @@
-//! Ryebadger for Rust: check, quote, refine, read and write a triangle cage, or
-//! build one from plain triangles.
+//! Ryebadger for Rust: check, quote, refine, read and write a triangle cage,
+//! build one from plain triangles, or write any level as STL.
 //!
 //! The operations are proved, and linked as an archive; this crate hands them
 //! slices and names their answers. The words and numbers are those of document
@@ -14,10 +14,11 @@
 //! | read a cage file | [`OwnedCage::read`], or [`read`] into lent tables |
 //! | write a cage file | [`Cage::to_file`], or [`write()`] into a lent buffer |
 //! | build a cage from plain triangles | [`OwnedCage::from_triangles`], or [`build`] into lent tables |
+//! | write a level as STL | [`Cage::to_stl`], or [`write_stl`] into a lent buffer |
 //!
 //! Nothing here panics on any input. `check`, `counts`, `refine`, `corners`,
-//! `read`, `write` and `build` allocate nothing; the others end the program, as
-//! Rust does, where memory is short.
+//! `read`, `write`, `build` and `write_stl` allocate nothing; the others end the
+//! program, as Rust does, where memory is short.
 //!
 //! ```
 //! use ryebadger::{OwnedCage, Refined};
@@ -39,11 +40,12 @@ mod refusal;
 pub mod sys;
 
 pub use cage::{
-    Cage, LentTables, OwnedCage, COORDINATE_LIMIT, DEPTH_LIMIT, HALFEDGE_LIMIT, MARKER,
-    VERTEX_LIMIT,
+    Cage, LentTables, OwnedCage, COORDINATE_LIMIT, DEPTH_LIMIT, HALFEDGE_LIMIT, LONGEST_TABLE,
+    MARKER, VERTEX_LIMIT,
 };
 pub use operations::{
-    build, check, corners, counts, read, refine, write, CageCounts, FileCounts, LevelCounts, LEVELS,
+    build, check, corners, counts, read, refine, stl_length, write, write_stl, CageCounts,
+    FileCounts, LevelCounts, LEVELS,
 };
 pub use owned::{Refined, LONGEST_FILE};
 pub use refusal::{Refusal, Table};

@@ -141,9 +141,7 @@ pub fn read(file: &[u8], lent: &mut LentTables<'_>) -> Result<FileCounts, Refusa
 pub fn write(cage: Cage<'_>, lent_file: &mut [u8]) -> Result<usize, Refusal> {
     let mut answer = [0; sys::WRITE_ANSWER];
     sys::write(cage, lent_file, &mut answer);
-    let [number, place, length] = answer;
-    refuse(number, place)?;
-    Ok(length as usize)
+    written(answer)
 }
 
 /// Building a cage from plain triangles: VERT, which has the corners of one
@@ -172,6 +170,38 @@ pub fn build(
     checked(answer)
 }
 
+/// Writing any level as binary STL, from its VERT table and its points, to the
+/// front of the lent buffer; the file's length is returned, [`stl_length`] of F.
+/// Bytes past it are untouched. Gives refusals 1, 2, 4, 8 and 9: 2 for a table
+/// longer than [`LONGEST_TABLE`](crate::LONGEST_TABLE), 4 for a corner past the
+/// points. An index of 8 above [`u32::MAX`] is told as that.
+/// [`Cage::to_stl`] allocates.
+///
+/// ```
+/// use ryebadger::{stl_length, write_stl};
+///
+/// let mut file = [1; stl_length(1)];
+/// let points = [0, 0, 0, 800, 0, 0, 0, 800, 0];
+/// assert_eq!(write_stl(&[0, 1, 2], &points, &mut file)?, 134);
+/// // F, and after the normal and a corner x of the next, 800/1024.
+/// assert_eq!(file[80..84], 1_u32.to_le_bytes());
+/// assert_eq!(file[108..112], 0.78125_f32.to_le_bytes());
+///
+/// let refusal = write_stl(&[0, 1, 3], &points, &mut file).unwrap_err();
+/// assert_eq!(refusal.to_string(), "refusal 4, VERTEX, at place 2");
+/// # Ok::<(), ryebadger::Refusal>(())
+/// ```
+pub fn write_stl(vert: &[u32], points: &[i32], lent_file: &mut [u8]) -> Result<usize, Refusal> {
+    let mut answer = [0; sys::WRITE_ANSWER];
+    sys::write_stl(vert, points, lent_file, &mut answer);
+    written(answer)
+}
+
+/// The bytes of an STL file of so many triangles.
+pub const fn stl_length(triangles: u32) -> usize {
+    84 + 50 * triangles as usize
+}
+
 /// The refusal of a number that is not 0.
 fn refuse(number: u32, place: u32) -> Result<(), Refusal> {
     match number {
@@ -190,6 +220,12 @@ fn checked(answer: [u32; sys::CHECK_ANSWER]) -> Result<CageCounts, Refusal> {
         vertices,
         borders,
     })
+}
+
+fn written(answer: [u32; sys::WRITE_ANSWER]) -> Result<usize, Refusal> {
+    let [number, place, length] = answer;
+    refuse(number, place)?;
+    Ok(length as usize)
 }
 
 fn counted(answer: &[u32; sys::COUNTS_ANSWER]) -> Result<LevelCounts, Refusal> {

@@ -1,11 +1,12 @@
 //! The operations with their tables allocated: reading and building an owned
-//! cage, a whole file, and all levels of a cage.
+//! cage, a whole file or STL, and all levels of a cage.
 
 use std::ops::Range;
 
-use crate::cage::{HALFEDGE_LIMIT, VERTEX_LIMIT};
+use crate::cage::{HALFEDGE_LIMIT, LONGEST_TABLE, VERTEX_LIMIT};
 use crate::operations::{
-    build, check, counts, read, refine, write, CageCounts, LevelCounts, LEVELS,
+    build, check, counts, read, refine, stl_length, write, write_stl, CageCounts, LevelCounts,
+    LEVELS,
 };
 use crate::{Cage, OwnedCage, Refusal};
 
@@ -64,6 +65,28 @@ impl Cage<'_> {
         let mut file = vec![0; LONGEST_FILE];
         let length = write(self, &mut file)?;
         file.truncate(length);
+        Ok(file)
+    }
+
+    /// The binary STL file of this cage or level, from its VERT table and its
+    /// points alone. Gives refusals 1, 2, 4 and 8.
+    ///
+    /// ```
+    /// use ryebadger::{OwnedCage, Refined};
+    ///
+    /// let points = [0, 0, 0, 16, 0, 0, 0, 16, 0];
+    /// let pillow = OwnedCage::from_triangles(&[0, 1, 2, 0, 2, 1], &points)?;
+    /// let refined = Refined::new(pillow.as_cage(), 6)?;
+    /// let finest = refined.levels().last().unwrap_or_default();
+    /// assert_eq!(finest.to_stl()?.len(), 84 + 50 * (2 << 12));
+    /// # Ok::<(), ryebadger::Refusal>(())
+    /// ```
+    pub fn to_stl(self) -> Result<Vec<u8>, Refusal> {
+        // Past the limit the table is refused, and needs no room.
+        let is_refused = self.vert.len() > LONGEST_TABLE;
+        let halfedges = if is_refused { 0 } else { self.vert.len() };
+        let mut file = vec![0; stl_length(halfedges as u32 / 3)];
+        write_stl(self.vert, self.points, &mut file)?;
         Ok(file)
     }
 }

@@ -95,6 +95,8 @@ pub enum Table {
     Points = 4,
     /// 5
     File = 5,
+    /// 6
+    Stl = 6,
 }
 
 impl Refusal {
@@ -116,6 +118,7 @@ impl Refusal {
                 table: Table::Points,
             },
             (9, 5) => Refusal::Room { table: Table::File },
+            (9, 6) => Refusal::Room { table: Table::Stl },
             (10, offset) => Refusal::Short { offset },
             (11, offset) => Refusal::Field { offset },
             (12, offset) => Refusal::Extra { offset },
@@ -171,17 +174,36 @@ impl Error for Refusal {}
 
 #[cfg(test)]
 mod tests {
-    use super::Refusal;
+    use super::{Refusal, Table};
 
     /// Names lose nothing of an answer, also of one that the documents do not
     /// have.
     #[test]
     fn number_and_place_are_kept() {
         for number in 1..=14 {
-            for place in [0, 1, 2, 3, 4, 5, 6, 43_032, u32::MAX] {
+            for place in [0, 1, 2, 3, 4, 5, 6, 7, 43_032, u32::MAX] {
                 let refusal = Refusal::told(number, place);
                 assert_eq!((refusal.number(), refusal.place()), (number, place));
             }
+        }
+    }
+
+    #[test]
+    fn lent_tables_stand_in_the_documents_order() {
+        let tables = [
+            Table::Twin,
+            Table::Vert,
+            Table::Edge,
+            Table::Points,
+            Table::File,
+            Table::Stl,
+        ];
+        for (place, table) in (1..).zip(tables) {
+            assert_eq!(Refusal::told(9, place), Refusal::Room { table });
+        }
+        for place in [0, 7] {
+            let unknown = Refusal::Unknown { number: 9, place };
+            assert_eq!(Refusal::told(9, place), unknown);
         }
     }
 

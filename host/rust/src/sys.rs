@@ -25,7 +25,8 @@ pub const CORNERS_ANSWER: usize = 5;
 /// The length of reading's answer: number, place, H and V.
 pub const READ_ANSWER: usize = 4;
 
-/// The length of writing's answer: number, place and the file's length.
+/// The length of writing's answer, which writing STL gives too: number, place
+/// and the file's length.
 pub const WRITE_ANSWER: usize = 3;
 
 #[rustfmt::skip] // a table's pointer and length stand side by side
@@ -60,6 +61,11 @@ extern "C" {
     fn ryebadger_build(
         vert: *const u32, vert_length: usize, points: *const i32, points_length: usize,
         lent_twin: *mut u32, lent_twin_length: usize, lent_edge: *mut u32, lent_edge_length: usize,
+        answer: *mut u32,
+    );
+    fn ryebadger_write_stl(
+        vert: *const u32, vert_length: usize, points: *const i32, points_length: usize,
+        lent_file: *mut u8, lent_file_length: usize,
         answer: *mut u32,
     );
 }
@@ -156,6 +162,23 @@ pub fn build(
         ryebadger_build(
             vert.as_ptr(), vert.len(), points.as_ptr(), points.len(),
             lent_twin.as_mut_ptr(), lent_twin.len(), lent_edge.as_mut_ptr(), lent_edge.len(),
+            answer.as_mut_ptr(),
+        );
+    }
+}
+
+/// Writing a level as STL.
+#[rustfmt::skip]
+pub fn write_stl(
+    vert: &[u32],
+    points: &[i32],
+    lent_file: &mut [u8],
+    answer: &mut [u32; WRITE_ANSWER],
+) {
+    unsafe {
+        ryebadger_write_stl(
+            vert.as_ptr(), vert.len(), points.as_ptr(), points.len(),
+            lent_file.as_mut_ptr(), lent_file.len(),
             answer.as_mut_ptr(),
         );
     }

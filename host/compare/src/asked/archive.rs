@@ -45,4 +45,8 @@ impl Operations for Archive {
         let Cage { twin, edge, .. } = tables;
         answered(|answer| sys::build(vert, points, twin, edge, answer))
     }
+
+    fn write_stl(&self, vert: &[u32], points: &[i32], lent_file: &mut [u8]) -> Vec<u64> {
+        answered(|answer| sys::write_stl(vert, points, lent_file, answer))
+    }
 }

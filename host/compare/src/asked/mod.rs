@@ -22,6 +22,7 @@ pub trait Operations {
     fn write(&self, cage: &Cage, lent_file: &mut [u8]) -> Vec<u64>;
     /// Only TWIN and EDGE are lent.
     fn build(&self, vert: &[u32], points: &[i32], lent: &mut Cage) -> Vec<u64>;
+    fn write_stl(&self, vert: &[u32], points: &[i32], lent_file: &mut [u8]) -> Vec<u64>;
 }
 
 /// The second program's tables, as the host library takes them.

@@ -40,6 +40,11 @@ impl Operations for SafeCrate {
         let found = ryebadger::build(vert, points, &mut tables.twin, &mut tables.edge);
         answer(found.map(cage_numbers))
     }
+
+    fn write_stl(&self, vert: &[u32], points: &[i32], lent_file: &mut [u8]) -> Vec<u64> {
+        let length = ryebadger::write_stl(vert, points, lent_file);
+        answer(length.map(|length| [length as u64]))
+    }
 }
 
 fn answer<const N: usize>(result: Result<[impl Into<u64>; N], Refusal>) -> Vec<u64> {

@@ -8,6 +8,7 @@ use second::counts::{count_question, LevelCounts};
 use second::file::{read_cage_file, write_cage_file};
 use second::refine::refine;
 use second::refusal::Refusal;
+use second::stl::write_stl;
 use second::tables::LentTables;
 
 use super::{level_numbers, told, Operations};
@@ -45,6 +46,10 @@ impl Operations for SecondProgram {
     fn build(&self, vert: &[u32], points: &[i32], tables: &mut Cage) -> Vec<u64> {
         let found = build(vert, points, [&mut tables.twin, &mut tables.edge]);
         answer(found.map(cage_numbers))
+    }
+
+    fn write_stl(&self, vert: &[u32], points: &[i32], lent_file: &mut [u8]) -> Vec<u64> {
+        answer(write_stl(vert, points, lent_file).map(|length| [length]))
     }
 }
 
