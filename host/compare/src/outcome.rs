@@ -3,6 +3,7 @@
 use std::fmt;
 
 use second::cage::Cage;
+use second::suite::Expected;
 
 /// Every number of the answer and every lent cell.
 #[derive(Clone, Debug, Default, PartialEq, Eq)]
@@ -19,6 +20,18 @@ impl Outcome {
     /// Number and place: both 0 when done.
     pub fn verdict(&self) -> (u64, u64) {
         (self.answer[0], self.answer[1])
+    }
+
+    /// Fails where another verdict is known beforehand.
+    pub fn assert_expected(&self, name: &str, expected: Expected) {
+        match expected {
+            Expected::Accepted => assert_eq!(self.verdict(), (0, 0), "{name}"),
+            Expected::Refused(refusal) => {
+                let expected = (refusal.number.into(), refusal.place);
+                assert_eq!(self.verdict(), expected, "{name}");
+            }
+            Expected::Unforeseen => {}
+        }
     }
 }
 

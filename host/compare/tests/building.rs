@@ -6,7 +6,7 @@ use std::collections::{HashMap, HashSet};
 use compare::{accepted, assert_alike, named, Outcome, Question};
 use second::cage::{Cage, MARKER};
 use second::questions::triangles::questions;
-use second::suite::{suite, Expected};
+use second::suite::suite;
 
 /// Longer than any cage needs.
 const LONG: [usize; 2] = [3_080, 3_091];
@@ -87,14 +87,7 @@ fn plain_triangles_to_try() {
     for question in questions {
         let (name, vert, points) = (&question.name, &question.vert, &question.points);
         let outcome = built(name, vert, points);
-        match question.expected {
-            Expected::Accepted => assert_eq!(outcome.verdict(), (0, 0), "{name}"),
-            Expected::Refused(refusal) => {
-                let expected = (refusal.number.into(), refusal.place);
-                assert_eq!(outcome.verdict(), expected, "{name}");
-            }
-            Expected::Unforeseen => {}
-        }
+        outcome.assert_expected(name, question.expected);
         if outcome.verdict() == (0, 0) {
             assert_checked(name, vert, points, &outcome);
         }

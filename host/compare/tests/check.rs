@@ -2,7 +2,7 @@
 
 use compare::{assert_alike, named, Outcome, Question};
 use second::cage::Cage;
-use second::suite::{suite, Expected};
+use second::suite::suite;
 
 fn checked(name: &str, cage: &Cage) -> Outcome {
     assert_alike(name, &Question::Check(cage))
@@ -13,16 +13,9 @@ fn every_cage_of_the_suite_valid_and_damaged() {
     let suite = suite();
     let mut numbers = [0; 9];
     for entry in &suite {
-        let (number, place) = checked(&entry.name, &entry.cage).verdict();
-        match entry.expected {
-            Expected::Accepted => assert_eq!((number, place), (0, 0), "{}", entry.name),
-            Expected::Refused(refusal) => {
-                let expected = (refusal.number.into(), refusal.place);
-                assert_eq!((number, place), expected, "{}", entry.name);
-            }
-            Expected::Unforeseen => {}
-        }
-        numbers[number as usize] += 1;
+        let outcome = checked(&entry.name, &entry.cage);
+        outcome.assert_expected(&entry.name, entry.expected);
+        numbers[outcome.verdict().0 as usize] += 1;
     }
     // Each number from 0 to 8 was answered.
     assert!(numbers.iter().all(|&count| count > 0), "{numbers:?}");

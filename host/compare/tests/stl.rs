@@ -110,14 +110,7 @@ fn corners_and_points_to_try() {
     for question in questions {
         let (name, vert, points) = (&question.name, &question.vert, &question.points);
         let outcome = written_into_each_room(name, vert, points);
-        match question.expected {
-            Expected::Accepted => assert_eq!(outcome.verdict(), (0, 0), "{name}"),
-            Expected::Refused(refusal) => {
-                let expected = (refusal.number.into(), refusal.place);
-                assert_eq!(outcome.verdict(), expected, "{name}");
-            }
-            Expected::Unforeseen => {}
-        }
+        outcome.assert_expected(name, question.expected);
     }
 }
 

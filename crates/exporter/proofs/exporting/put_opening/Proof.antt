@@ -28,7 +28,8 @@ cast-put-head c =
     let i = c .before .before in
     let n = i .before in
     let s = n .before .before in
-    omega (arith, s .pre .0 .few-triangles (sym (n .number .ensures) ∙ i .if1 .left))
+    let z = sym (n .number .ensures) ∙ i .if1 .left in
+    omega (arith, s .pre .0 .few-triangles z, s .pre .0 .few-vertices z)
 
 put-head-requires : tie.Need-put-head-requires
 put-head-requires c κs = search needs
