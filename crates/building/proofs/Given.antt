@@ -12,7 +12,7 @@ use native.Mathlib.Omega.{arith}
 use lib.Dec.{eqb}
 use lib.IntN.{ℤ}
 use lib.ListN.{length}
-use borrow.Author.Tests.{eqb-true, eq-eqb, ne-eqb, lt-ltb, le-ltb, not-false}
+use borrow.Author.Tests.{eqb-true, lt-ltb, le-ltb, not-false}
 use Rattle.laws.specs.Below.{any, lowest}
 use Rattle.laws.proofs.Tests.{by-test, or-false₃, any-false}
 use Rattle.laws.proofs.Lowest.{lowest-none}

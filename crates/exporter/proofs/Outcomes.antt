@@ -3,7 +3,7 @@
 --     file-small                        the counts of a file that is accepted
 --     file-opens, file-within           the opening for the file
 use Prim.Native.Nat.{ℕ, _*_, _≤_}
-use mathlib.Core.Path.{_≡_, refl, sym, ap, _∙_}
+use mathlib.Core.Path.{_≡_, sym, ap, _∙_}
 use mathlib.Core.Logic.{_≢_}
 use mathlib.Core.List.{List}
 use native.Mathlib.Decide.{ℕ-discrete}
@@ -16,7 +16,7 @@ use Rattle.halfedges.specs.Cage.{most-halfedges, most-vertices, F}
 use Rattle.halfedges.specs.Refusals.{told}
 use Rattle.tables.specs.declared.check.Checked.{Checked}
 use Rattle.tables.specs.Check.{returned, checked}
-use Rattle.reading.specs.Reading.{twinsIn, vertsIn, pointsIn}
+use Rattle.reading.specs.Reading.{vertsIn, pointsIn}
 use Rattle.reading.proofs.Outcomes.{twins-length, verts-length, points-length}
 use Rattle.text.specs.declared.replies.Written.{Written}
 use Rattle.text.specs.Replies.{refused}
@@ -29,7 +29,7 @@ use Rattle.intake.proofs.Outcomes.{reply-refused, reply-answered, accepted-done
 use Rattle.stl.specs.File.{stlHead}
 use Rattle.stl.proofs.FacetLaws.{head-length}
 use Rattle.exporter.specs.declared.exporting.Opened.{Opened}
-use Rattle.exporter.specs.Exporting.{levelStl, exporting, cornersOut, placesOut, opening, Opens}
+use Rattle.exporter.specs.Exporting.{levelStl, cornersOut, placesOut, opening, Opens}
 use Rattle.exporter.specs.Internal.Steps.{Small, openingOf, Opening, Within}
 
 -- ---- a checked cage

@@ -4,6 +4,7 @@ use mathlib.Core.Path.{_≡_}
 use mathlib.Core.List.{List, []}
 use lib.IntN.{ℤ}
 use lib.ListN.{length, take}
+use Rattle.laws.specs.Below.{endToEnd}
 use Rattle.laws.specs.Parts.{inFront}
 use Rattle.halfedges.specs.Cage.{F}
 use Rattle.halfedges.specs.Refusals.{whenDone}
@@ -11,9 +12,10 @@ use Rattle.tables.specs.Tables.{Tables}
 use Rattle.reading.specs.Reading.{vertsIn, pointsIn}
 use Rattle.text.specs.Replies.{Reply, refused}
 use Rattle.intake.specs.Intake.{checkFile, fileReply}
-use Rattle.stl.specs.File.{stlHead, stlFile}
+use Rattle.stl.specs.File.{facetAt, stlHead, stlFile}
 use Rattle.exporter.specs.declared.exporting.Opened.{Opened}
 
+-- "level 0's STL"
 abbrev pub levelStl : Tables → List ℤ → List ℕ
 levelStl c points = stlFile (c .vert) points
 
@@ -34,8 +36,12 @@ opening f =
     let verdict = checkFile f .verdict in
     whenDone verdict (stlHead (F (length (vertsIn f)))) (refused verdict .text)
 
--- the opening stands in front of what the lent text held, and VERT and points at the fronts of their tables; its length, the status and the lengths
--- of both are told
+-- and then "a facet at a time": with the opening before them these are the reply's text (`parts-whole`)
+abbrev pub facetsOut : List ℕ → List ℕ
+facetsOut f = endToEnd (F (length (cornersOut f))) (facetAt (cornersOut f) (placesOut f))
+
+-- the opening stands in front of what the lent text held, and VERT and points of the facets at the fronts of their tables; its length,
+-- the status and the lengths of both are told
 pub record Opens (f before after vert : List ℕ) (points : List ℤ) (told : Opened) : Type 0 where
   pub status : told .status ≡ exporting f .status
   pub text : after ≡ inFront (opening f) before

@@ -24,8 +24,8 @@ pub struct Opened {
 // The opening for any bytes, at the front of out; VERT and points of the facets at the fronts of two tables.
 pub fn open(
     file: &[u8],
-    vert: &mut [u32; 3072],
-    points: &mut [i32; 6144],
+    vert: &mut [u32; HalfedgeTable::MOST_HALFEDGES],
+    points: &mut [i32; 3 * HalfedgeTable::MOST_VERTICES],
     out: &mut [u8; 1024],
 ) -> Opened
     ensures { λ r.

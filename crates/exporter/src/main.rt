@@ -31,8 +31,8 @@ fn export_input(file: &mut [u8])
 
 // Puts out the opening for a file's bytes, then its facets, then the status.
 fn export(file: &[u8]) {
-    let mut vert = [0u32; 3072];
-    let mut points = [0i32; 6144];
+    let mut vert = [0u32; HalfedgeTable::MOST_HALFEDGES];
+    let mut points = [0i32; 3 * HalfedgeTable::MOST_VERTICES];
     let mut out = [0u8; 1024];
     let opened = exporting::open(file, &mut vert, &mut points, &mut out);
     let length = opened.length;

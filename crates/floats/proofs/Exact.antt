@@ -1,6 +1,6 @@
 -- The float of a coordinate is exact: its value is units/1024 (`float-exact`), its bits are the definition's (`float-bits`), it is a number
 -- (`float-number`), and it is what the code's division gives (`castable`, `float-divided`). Assumes nothing.
-use Prim.Native.Nat.{ℕ, suc, _+_, _-_, _*_, _/_, _^_, _≤_}
+use Prim.Native.Nat.{ℕ, suc, _+_, _*_, _/_, _^_, _≤_}
 use mathlib.Core.Path.{_≡_, refl, sym, ap, _∙_}
 use mathlib.Core.Bool.{Bool, true, false, not, cond}
 use native.Mathlib.Nat.{mul-pos, mul-one, mul-assoc, mul-comm, mul-right-comm, mul-div-cancel, mul-le-mul-right, le-of-lt, lt-of-le-of-lt, lt-of-lt-of-le, add-assoc, zero-add}

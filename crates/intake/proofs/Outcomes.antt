@@ -7,7 +7,7 @@
 --     accepted-cage, -done, -values     the answer of the check to an accepted file, and its H and V (`accepted-H`, `accepted-V`)
 --     file-taken                        where its cage stands
 use Prim.Native.Nat.{ℕ, _*_}
-use mathlib.Core.Path.{_≡_, refl, sym, ap, _∙_}
+use mathlib.Core.Path.{_≡_, sym, ap, _∙_}
 use mathlib.Core.Logic.{_≢_}
 use mathlib.Core.List.{List}
 use native.Mathlib.Decide.{ℕ-discrete}

@@ -1,4 +1,5 @@
--- Document 01, "The level lister", as every program does it that takes a cage file: the file is read and the cage checked, and a refusal is one line.
+-- Document 01, "The level lister", as every program does it that takes a cage file: the file is read and the cage checked, and a refusal
+-- is one line.
 use Prim.Native.Nat.{ℕ, _*_}
 use mathlib.Core.List.{List}
 use lib.IntN.{ℤ, pos}

@@ -2,7 +2,7 @@
 --     climb-start, climb-on      where the loop stands at level 0, and at one level more
 --     climb-asks                 each level finds what it asks in its part of the tables
 --     climb-fits                 and its numbers are small
-use Prim.Native.Nat.{ℕ, zero, suc, _+_, _*_, _/_, _%_, _^_, _≤_, _<_}
+use Prim.Native.Nat.{ℕ, zero, suc, _+_, _*_, _%_, _^_, _≤_, _<_}
 use mathlib.Core.Path.{_≡_, refl, sym, ap, _∙_}
 use mathlib.Core.Logic.{_≢_}
 use mathlib.Core.List.{List, _++_, append-assoc}
@@ -26,7 +26,7 @@ use Rattle.tables.specs.Tables.{Tables}
 use Rattle.splitting.specs.NextLevel.{newVert, nextVerts, level}
 use Rattle.levels.specs.Refining.{levelsEndToEnd}
 use Rattle.splitting.proofs.Rows.{at-across, at-back, at-middle}
-use Rattle.points.specs.NextPoints.{nextPoints, levelPoints}
+use Rattle.points.specs.NextPoints.{levelPoints}
 use Rattle.points.specs.Internal.Relied.{Fourfold}
 use Rattle.passes.specs.declared.level.Level.{Level}
 use Rattle.passes.specs.Internal.Levels.{pointsAt, nextEnd, withNext, Ready, tablesAt, withNextAt, ReadyLevel, cageLevel, nextLevel, Climbs, cageOf, cageCorners, pointLevels, withLevels, ReadyLevels}

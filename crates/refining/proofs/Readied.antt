@@ -1,6 +1,6 @@
 -- The tables of all levels, and a table with the cage's points in front, are ready for the points of all levels (`readied`), and
 -- these are the outcome (`outcome`). Assumes nothing.
-use Prim.Native.Nat.{ℕ, zero, suc, _*_, _≤_}
+use Prim.Native.Nat.{ℕ, suc, _*_, _≤_}
 use mathlib.Core.Path.{_≡_, sym, subst, _∙_}
 use mathlib.Core.List.{List}
 use native.Mathlib.Omega.{arith}

@@ -1,6 +1,6 @@
 -- Every level of a cage that was refined can be written from its own part of the tables: `levels-writable`. Assumes nothing.
-use Prim.Native.Nat.{ℕ, suc, _+_, _*_, _/_, _%_, _^_, _≤_, _<_}
-use mathlib.Core.Path.{_≡_, refl, sym, ap, ap₂, _∙_}
+use Prim.Native.Nat.{ℕ, suc, _+_, _*_, _%_, _^_, _≤_, _<_}
+use mathlib.Core.Path.{_≡_, refl, sym, ap, _∙_}
 use mathlib.Core.Bool.{false}
 use mathlib.Core.List.{List}
 use native.Mathlib.Nat.{one-mul, mul-assoc, mul-div-cancel, mul-le-mul, pow-le-pow-right}
@@ -14,16 +14,16 @@ use Rattle.laws.specs.Below.{endToEnd, sum}
 use Rattle.laws.specs.Parts.{inFront}
 use Rattle.laws.proofs.EndToEnd.{length-multiples, part-of}
 use Rattle.halfedges.specs.declared.table.HalfedgeTable.{HalfedgeTable}
-use Rattle.halfedges.specs.Cage.{most-halfedges, most-depth, F, cell}
+use Rattle.halfedges.specs.Cage.{most-depth, F, cell}
 use Rattle.halfedges.specs.Refusals.{DONE, SHAPE, LIMIT, VERTEX, POINT, first}
 use Rattle.halfedges.specs.Counts.{Hs, Vs}
-use Rattle.halfedges.proofs.Checks.{Clean, AllPassed, none, also, all-passed-done, is-passed, clean-done}
+use Rattle.halfedges.proofs.Checks.{Clean, none, also, all-passed-done, is-passed, clean-done}
 use Rattle.tables.specs.Tables.{Tables, countsOf}
 use Rattle.splitting.specs.NextLevel.{level}
 use Rattle.levels.specs.Internal.Filling.{tablesInFront}
 use Rattle.levels.specs.Refining.{levelsEndToEnd}
 use Rattle.points.specs.NextPoints.{levelPoints}
-use Rattle.points.specs.Operations.{vertices, unshaped, outOfRange, cageChecks, refineVerdict, refineCage, InRange}
+use Rattle.points.specs.Operations.{vertices, unshaped, outOfRange, cageChecks, refineVerdict}
 use Rattle.refining.specs.Whole.{WholeInvariant}
 use Rattle.refining.proofs.Whole.{accepted-whole}
 use Rattle.refining.proofs.Refined.{both-done, counts-granted, refine-done}

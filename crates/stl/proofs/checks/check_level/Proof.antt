@@ -3,11 +3,9 @@ use borrow.Author.Needs.{needs}
 use mathlib.Core.Path.{_≡_, sym, _∙_}
 use mathlib.Core.Bool.{false}
 use mathlib.Core.List.{List}
-use Prim.Native.Nat.{ℕ, _≤_}
+use Prim.Native.Nat.{ℕ}
 use lib.IntN.{ℤ}
-use lib.ListN.{length}
 use Rattle.points.specs.Operations.{unshaped}
-use Rattle.stl.specs.Writing.{longest}
 use Rattle.stl.proofs.Verdict.{shape-given, limit-given, corner-given, points-given}
 use Rattle.stl.proofs.checks.check_level.Statement.{statement}
 use Rattle.stl.proofs.checks.check_level.Tie as tie
