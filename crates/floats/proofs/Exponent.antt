@@ -23,11 +23,11 @@ module _ (n : ℕ) (few : n ≤ 1048576) where
   unfolding test
   last = lt-ltb n (2 ^ 21) (lt-of-le-of-lt few (lit< tt))
 
-  pub exponent-at-most : exponent n ≤ 20
+  exponent-at-most : exponent n ≤ 20
   unfolding exponent test
   exponent-at-most = lowest-at-most 21 test 20 (lit< tt) last
 
-  pub exponent-high : n < 2 ^ suc (exponent n)
+  exponent-high : n < 2 ^ suc (exponent n)
   unfolding exponent test
   exponent-high = ltb-true n (2 ^ suc (exponent n)) (lowest-passes 21 test 20 (lit< tt) last)
 
@@ -38,7 +38,7 @@ module _ (n : ℕ) (few : n ≤ 1048576) where
       (λ t. let h : exponent n ≤ j = lowest-at-most 21 test j (omega (arith, exponent-at-most)) t in absurd (omega (arith, h)))
       (λ f. ltb-false n (2 ^ suc j) f)
 
-  pub exponent-low : 0 < n → 2 ^ exponent n ≤ n
+  exponent-low : 0 < n → 2 ^ exponent n ≤ n
   exponent-low h = by (exponent n) refl
     where
       by : (e : ℕ) → e ≡ exponent n → 2 ^ e ≤ n

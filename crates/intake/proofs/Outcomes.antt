@@ -4,7 +4,7 @@
 --     file-checked                      the check of the file
 --     file-unread, file-accepted        the check of a file that does not read, and of one that is accepted
 --     reply-refused, reply-answered     the reply
---     accepted-cage, -done, -values     the answer of the check to an accepted file, and its H and V (`accepted-H`, `accepted-V`)
+--     accepted-done, accepted-values    the answer of the check to an accepted file, and its H and V (`accepted-H`, `accepted-V`)
 --     file-taken                        where its cage stands
 use Prim.Native.Nat.{ℕ, _*_}
 use mathlib.Core.Path.{_≡_, sym, ap, _∙_}
@@ -147,7 +147,7 @@ module _ (f : List ℕ) (c : Checked) (e : checked c ≡ checkFile f) (z : told 
   accepts : checkFile f .verdict .number ≡ 0
   accepts = ap (λ s. s .verdict .number) (sym e) ∙ z
 
-  pub accepted-cage : checked c ≡ checkCage (cageIn f) (pointsIn f)
+  accepted-cage : checked c ≡ checkCage (cageIn f) (pointsIn f)
   accepted-cage = e ∙ file-accepted f accepts
 
   pub accepted-done : first (cageChecks (cageIn f) (pointsIn f) 0) ≡ DONE

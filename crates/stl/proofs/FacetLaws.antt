@@ -64,7 +64,7 @@ point-ranged : (points : List ℤ) → Ranged points → (v : ℕ) (zs : List �
 point-ranged points r v zs n =
     one-more (r .at (3 * v + 0)) (one-more (r .at (3 * v + 1)) (one-more (r .at (3 * v + 2)) n))
 
-pub facet-ranged : (points : List ℤ) (c : List ℕ) → Ranged points → Ranged (facetUnits points c)
+facet-ranged : (points : List ℤ) (c : List ℕ) → Ranged points → Ranged (facetUnits points c)
 facet-ranged points c r =
     one-more zero-ranged (one-more zero-ranged (one-more zero-ranged
     (point-ranged points r (cell c 0) _ (point-ranged points r (cell c 1) _ (point-ranged points r (cell c 2) _ none-ranged)))))
@@ -90,12 +90,12 @@ pub facet-floats : (points : List ℤ) (c : List ℕ) {x y z : List Float}
     ≡ map floatOf (facetUnits points c)
 facet-floats points c e f g = rw (e, f, g, zero-float)
 
-pub numbers-of : (zs : List ℤ) → Ranged zs → Numbers (map floatOf zs)
+numbers-of : (zs : List ℤ) → Ranged zs → Numbers (map floatOf zs)
 numbers-of [] n i = float-number (pos 0) zero-ranged
 numbers-of (z ∷ zs) n zero = float-number z (n .at 0)
 numbers-of (z ∷ zs) n (suc i) = numbers-of zs (rest-ranged n) i
 
-pub bytes-of : (zs : List ℤ) → Ranged zs → flatMap floatBytes (map floatOf zs) ≡ flatMap unitBytes zs
+bytes-of : (zs : List ℤ) → Ranged zs → flatMap floatBytes (map floatOf zs) ≡ flatMap unitBytes zs
 unfolding flatMap floatBytes unitBytes
 bytes-of [] n = refl
 bytes-of (z ∷ zs) n = ap₂ (λ b bs. u32 b ++ bs) (float-bits z (n .at 0)) (bytes-of zs (rest-ranged n))
@@ -131,7 +131,7 @@ five-written d l₁ l₂ l₃ l₄ l₅ n x y z w p q r s e₁ e₂ e₃ e₄ e�
 
 -- ---- lengths
 
-pub facet-length : (points : List ℤ) (c : List ℕ) → length (facetBytes points c) ≡ 50
+facet-length : (points : List ℤ) (c : List ℕ) → length (facetBytes points c) ≡ 50
 unfolding facetBytes flatMap unitBytes
 facet-length points c = refl
 
@@ -144,13 +144,13 @@ module _ (vert : List ℕ) (points : List ℤ) where
   abbrev pub facets : ℕ → List ℕ
   facets n = endToEnd n (facetAt vert points)
 
-  pub facets-length : (n : ℕ) → length (facets n) ≡ 50 * n
+  facets-length : (n : ℕ) → length (facets n) ≡ 50 * n
   facets-length zero = refl
   facets-length (suc n) =
       length-append (facets n) (facetAt vert points n)
       ∙ rw (facets-length n, facet-length points (corners vert n), mul-suc) refl
 
-  pub facets-more : (d l : List ℕ) (n : ℕ) → l ≡ inFront (facets n) d → splice l (50 * n) (facetAt vert points n) ≡ inFront (facets (n + 1)) d
+  facets-more : (d l : List ℕ) (n : ℕ) → l ≡ inFront (facets n) d → splice l (50 * n) (facetAt vert points n) ≡ inFront (facets (n + 1)) d
   facets-more d l n e = rw (add-one n) (over-more d l (facets n) (facetAt vert points n) (50 * n) e (facets-length n))
 
   -- a facet written over the part from its place on
