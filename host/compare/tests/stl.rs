@@ -64,24 +64,20 @@ fn every_small_accepted_cage_at_every_level() {
     }
 }
 
+/// Level 6 of the largest, closed and with as many vertices as there may be, is
+/// as long as a table may be.
 #[test]
-fn every_large_accepted_cage_at_levels_0_to_5() {
+fn every_large_accepted_cage_at_every_level() {
     let mut entries = accepted();
     entries.retain(SuiteCage::is_large);
     assert!(entries.len() > 10);
-    for entry in entries {
-        at_every_level(&entry.name, &entry.cage, 5);
-    }
-}
-
-/// Closed, and with as many vertices as there may be; level 6 is as long as a
-/// table may be.
-#[test]
-fn cages_of_3072_halfedges_at_every_level() {
     for name in ["torus-32x16", "most-halfedges-and-vertices"] {
-        let cage = named(name);
-        assert_eq!(cage.vert.len() << 12, VERT_LIMIT);
-        at_every_level(name, &cage, 6);
+        let largest = entries.iter().find(|entry| entry.name == name);
+        let halfedges = largest.expect(name).cage.vert.len();
+        assert_eq!(halfedges << 12, VERT_LIMIT);
+    }
+    for entry in entries {
+        at_every_level(&entry.name, &entry.cage, 6);
     }
 }
 
