@@ -1,3 +1,2 @@
 pub mod Small
 pub mod Answers
-pub mod CellPlaces

@@ -1,4 +1,4 @@
--- Lists of small numbers (`fitting-at`, `fitting-both`, `fitting-tabulate`, `fitting-when`), every answer's number (`number-small`), and checks with a small number and place: one of
+-- Lists of small numbers (`fitting-at`, `fitting-both`, `fitting-front`, `fitting-rest`, `fitting-tabulate`, `fitting-when`), every answer's number (`number-small`), and checks with a small number and place: one of
 -- them (`given-small`, `givenAt-small`), the first of several (`first-small`, `guarded-small`, `joined-small`). Assumes nothing.
 use Prim.Native.Nat.{ℕ, zero, suc, _≤_, _<_, zero-le, suc-le-suc}
 use mathlib.Core.Path.{_≡_, refl}
@@ -26,6 +26,14 @@ fitting-at (n ∷ ns) (suc k) f = fitting-at ns k (f .1)
 pub fitting-both : (ns ms : List ℕ) → Fitting ns → Fitting ms → Fitting (ns ++ ms)
 fitting-both [] ms f g = g
 fitting-both (n ∷ ns) ms f g = (f .0, fitting-both ns ms (f .1) g)
+
+pub fitting-front : (ns ms : List ℕ) → Fitting (ns ++ ms) → Fitting ns
+fitting-front [] ms f = tt
+fitting-front (n ∷ ns) ms f = (f .0, fitting-front ns ms (f .1))
+
+pub fitting-rest : (ns ms : List ℕ) → Fitting (ns ++ ms) → Fitting ms
+fitting-rest [] ms f = f
+fitting-rest (n ∷ ns) ms f = fitting-rest ns ms (f .1)
 
 pub fitting-tabulate : (n : ℕ) (f : ℕ → ℕ) → ((k : ℕ) → k < n → f k < 4294967296) → Fitting (tabulate n f)
 fitting-tabulate zero f l = tt

@@ -2,7 +2,7 @@
 ghost use mathlib.Core.Path.{_≡_};
 ghost use Prim.Native.Nat.{_<_};
 ghost use mathlib.Core.List.{[]};
-ghost use lib.ListN.{length, getD};
+ghost use lib.ListN.{length};
 ghost use Rattle.halfedges.specs.Refusals.{told};
 ghost use Rattle.halfedges.specs.Counts.{counted as Counts·counted};
 ghost use Rattle.halfedges.specs.Corners.{cornered};
@@ -91,32 +91,20 @@ pub fn of_stl(written: Writing) -> [u32; 3]
     [number, cell, written.length as u32]
 }
 
-// What stands at a place of an answer with counts: number, place, H, E and V of the seven levels, the two rooms.
-fn count_at(counted: Counted, place: usize) -> usize
-    requires { ⌜ Sevens (counted .levels) × (place < 25) ⌝ }
-    ensures { λ r. ⌜ r ≡ getD (levelCells (Counts·counted counted)) place 0 ⌝ }
+// Seven numbers as cells.
+fn of_seven(numbers: [usize; 7]) -> [u32; 7]
+    requires { ⌜ Fitting numbers × (length numbers ≡ 7) ⌝ }
+    ensures { λ r. ⌜ r ≡ numbers ⌝ }
 {
-    let answer = counted.answer;
-    let levels = counted.levels;
-    if place == 0 {
-        return answer.number();
-    }
-    if place == 1 {
-        return answer.place();
-    }
-    if place < 9 {
-        return levels.halfedges[place - 2];
-    }
-    if place < 16 {
-        return levels.edges[place - 9];
-    }
-    if place < 23 {
-        return levels.vertices[place - 16];
-    }
-    if place == 23 {
-        return levels.halfedge_room;
-    }
-    levels.vertex_room
+    [
+        numbers[0] as u32,
+        numbers[1] as u32,
+        numbers[2] as u32,
+        numbers[3] as u32,
+        numbers[4] as u32,
+        numbers[5] as u32,
+        numbers[6] as u32,
+    ]
 }
 
 // Number, place, H, E and V of the seven levels, and the two rooms.
@@ -124,11 +112,43 @@ pub fn of_counts(counted: Counted) -> [u32; 25]
     requires { ⌜ Sevens (counted .levels) × Fitting (levelCells (Counts·counted counted)) ⌝ }
     ensures { λ r. ⌜ r ≡ levelCells (Counts·counted counted) ⌝ }
 {
-    let mut numbers = [0; 25];
-    let mut place = 0;
-    while place < 25 {
-        numbers[place] = count_at(counted, place) as u32;
-        place += 1;
-    }
-    numbers
+    let told = counted.answer;
+    let number = told.number() as u32;
+    let place = told.place() as u32;
+    let levels = counted.levels;
+    let halfedges = levels.halfedges;
+    let edges = levels.edges;
+    let vertices = levels.vertices;
+    let h = of_seven(halfedges);
+    let e = of_seven(edges);
+    let v = of_seven(vertices);
+    let halfedge_room = levels.halfedge_room as u32;
+    let vertex_room = levels.vertex_room as u32;
+    [
+        number,
+        place,
+        h[0],
+        h[1],
+        h[2],
+        h[3],
+        h[4],
+        h[5],
+        h[6],
+        e[0],
+        e[1],
+        e[2],
+        e[3],
+        e[4],
+        e[5],
+        e[6],
+        v[0],
+        v[1],
+        v[2],
+        v[3],
+        v[4],
+        v[5],
+        v[6],
+        halfedge_room,
+        vertex_room,
+    ]
 }

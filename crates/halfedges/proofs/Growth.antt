@@ -1,10 +1,16 @@
--- The counts of the levels stay small: `level-at-most`, `levels-at-most`. Assumes nothing.
-use Prim.Native.Nat.{ℕ, zero, suc, _*_, _^_, _≤_, _<_}
+-- The counts from one level to the next (`counts-more`), and that those of the levels stay small: `level-at-most`, `levels-at-most`. Assumes nothing.
+use Prim.Native.Nat.{ℕ, zero, suc, _+_, _*_, _^_, _≤_, _<_}
+use mathlib.Core.Path.{_≡_}
+use native.Mathlib.Numerals.{add-one}
 use native.Mathlib.Nat.{pow-suc, pow-le-pow-right, mul-le-mul-right}
 use native.Mathlib.Omega.{arith}
 use Rattle.halfedges.specs.declared.table.HalfedgeTable.{HalfedgeTable}
 use Rattle.halfedges.specs.Internal.Counts.{AtMost}
-use Rattle.halfedges.specs.Counts.{countsAt}
+use Rattle.halfedges.specs.Counts.{finer, countsAt}
+
+pub counts-more : (t : HalfedgeTable) (k : ℕ) → finer (countsAt t k) ≡ countsAt t (k + 1)
+unfolding countsAt
+counts-more t k = rw add-one
 
 -- a level's counts grow fourfold at most
 pub level-at-most : (m : ℕ) (t : HalfedgeTable) → AtMost m t → (k : ℕ) → AtMost (4 ^ k * m) (countsAt t k)

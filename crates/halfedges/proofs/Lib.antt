@@ -1,6 +1,7 @@
 pub mod Checks
 pub mod Told
 pub mod Growth
-pub mod FirstLevels
+pub mod ClosedForms
+pub mod Shifted
 pub mod Questions
 pub mod Triangle

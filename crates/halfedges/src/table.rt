@@ -3,8 +3,8 @@ ghost use mathlib.Core.Path.{_≡_};
 ghost use Prim.Native.Nat.{_≤_, _<_, _^_};
 ghost use Rattle.halfedges.specs.Cage.{NEXT, PREV, most-halfedges, most-depth};
 ghost use Rattle.halfedges.specs.Refusals.{told};
-ghost use Rattle.halfedges.specs.Internal.Counts.{AtMost, refusedCount};
-ghost use Rattle.halfedges.specs.Counts.{finer as Counts·finer, levels as Counts·levels, noLevels, countShape, aboveLimit, countQuestion, counted};
+ghost use Rattle.halfedges.specs.Internal.Counts.{AtMost, countsWithin, refusedCount};
+ghost use Rattle.halfedges.specs.Counts.{finer as Counts·finer, countsAt, levels as Counts·levels, roomH, roomV, noLevels, countShape, aboveLimit, countQuestion, counted};
 use crate::answer::Answer;
 
 // The counts of one level's halfedge table: H, E and V.
@@ -68,19 +68,95 @@ impl HalfedgeTable {
         requires { ⌜ (AtMost most-halfedges self) × (depth ≤ most-depth) ⌝ }
         ensures { λ r. ⌜ r ≡ Counts·levels self depth ⌝ }
     {
-        let mut table = self;
-        let mut levels = Levels::none();
-        let mut level = 0;
-        while level <= depth {
-            levels.halfedges[level] = table.halfedges;
-            levels.edges[level] = table.edges;
-            levels.vertices[level] = table.vertices;
-            levels.halfedge_room = levels.halfedge_room + table.halfedges;
-            levels.vertex_room = levels.vertex_room + table.vertices;
-            table = table.finer();
-            level += 1;
+        let one = self.within(1, depth);
+        let two = self.within(2, depth);
+        let three = self.within(3, depth);
+        let four = self.within(4, depth);
+        let five = self.within(5, depth);
+        let six = self.within(6, depth);
+        Levels {
+            halfedges: [
+                self.halfedges,
+                one.halfedges,
+                two.halfedges,
+                three.halfedges,
+                four.halfedges,
+                five.halfedges,
+                six.halfedges,
+            ],
+            edges: [
+                self.edges,
+                one.edges,
+                two.edges,
+                three.edges,
+                four.edges,
+                five.edges,
+                six.edges,
+            ],
+            vertices: [
+                self.vertices,
+                one.vertices,
+                two.vertices,
+                three.vertices,
+                four.vertices,
+                five.vertices,
+                six.vertices,
+            ],
+            halfedge_room: self.halfedge_room(depth),
+            vertex_room: self.vertex_room(depth),
         }
-        levels
+    }
+
+    // The counts of a level, zero past the depth.
+    fn within(self, level: usize, depth: usize) -> HalfedgeTable
+        requires { ⌜ (AtMost most-halfedges self) × (level ≤ most-depth) ⌝ }
+        ensures { λ r. ⌜ r ≡ countsWithin self depth level ⌝ }
+    {
+        if depth < level {
+            return HalfedgeTable {
+                halfedges: 0,
+                edges: 0,
+                vertices: 0,
+            };
+        }
+        self.at(level)
+    }
+
+    // The counts of a level, by equations 4 to 6 of the paper. F is a third of H, and is taken last, where it is whole.
+    fn at(self, level: usize) -> HalfedgeTable
+        requires { ⌜ (AtMost most-halfedges self) × (level ≤ most-depth) ⌝ }
+        ensures { λ r. ⌜ r ≡ countsAt self level ⌝ }
+    {
+        let power = 1 << level;
+        let square = power * power;
+        HalfedgeTable {
+            halfedges: square * self.halfedges,
+            edges: power * self.edges + (square - power) / 2 * self.halfedges,
+            vertices: self.vertices
+                + (power - 1) * self.edges
+                + (square + 2 - 3 * power) / 2 * self.halfedges / 3,
+        }
+    }
+
+    // The sum of H over levels 0 to depth.
+    fn halfedge_room(self, depth: usize) -> usize
+        requires { ⌜ (AtMost most-halfedges self) × (depth ≤ most-depth) ⌝ }
+        ensures { λ r. ⌜ r ≡ roomH self depth ⌝ }
+    {
+        let power = 1 << depth;
+        (4 * (power * power) - 1) * self.halfedges / 3
+    }
+
+    // The sum of V over levels 0 to depth.
+    fn vertex_room(self, depth: usize) -> usize
+        requires { ⌜ (AtMost most-halfedges self) × (depth ≤ most-depth) ⌝ }
+        ensures { λ r. ⌜ r ≡ roomV self depth ⌝ }
+    {
+        let power = 1 << depth;
+        let square = power * power;
+        (depth + 1) * self.vertices
+            + (2 * power - (depth + 2)) * self.edges
+            + (2 * square + 3 * depth + 7 - 9 * power) * self.halfedges / 9
     }
 
     // The count question, of any numbers.

@@ -1,11 +1,10 @@
--- Laws of lists given cell by cell: `length-tabulate`, `getD-tabulate`, `tabulate-ext`, `tabulate-set`. Assumes nothing.
+-- Laws of lists given cell by cell: `length-tabulate`, `getD-tabulate`, `tabulate-ext`, `tabulate-cells`. Assumes nothing.
 use Prim.Native.Nat.{ℕ, zero, suc, _<_, zero-le, suc-le-suc}
 use mathlib.Core.Path.{_≡_, refl, ap, ap₂}
-use mathlib.Core.Logic.{_≢_}
-use mathlib.Core.List.{_∷_}
+use mathlib.Core.List.{List, [], _∷_}
 use native.Mathlib.Nat.{not-suc-le-zero, le-of-suc-le-suc}
 use native.Mathlib.Omega.{arith}
-use lib.ListN.{length, getD, set}
+use lib.ListN.{length, getD}
 use Rattle.laws.specs.Below.{tabulate}
 
 module _ {A : Type 0} where
@@ -23,10 +22,9 @@ module _ {A : Type 0} where
   tabulate-ext zero f g e = refl
   tabulate-ext (suc n) f g e = ap₂ _∷_ (e 0 (suc-le-suc zero-le)) (tabulate-ext n (λ k. f (suc k)) (λ k. g (suc k)) (λ k l. e (suc k) (suc-le-suc l)))
 
-  -- a store at k, where all else agrees
-  pub tabulate-set : (n k : ℕ) (f g : ℕ → A) → ((j : ℕ) → j < n → j ≢ k → f j ≡ g j) → set (tabulate n f) k (g k) ≡ tabulate n g
-  tabulate-set zero k f g e = refl
-  tabulate-set (suc n) zero f g e = ap (λ t. g 0 ∷ t) (tabulate-ext n (λ j. f (suc j)) (λ j. g (suc j)) (λ j l. e (suc j) (suc-le-suc l) (λ q. omega arith)))
-  tabulate-set (suc n) (suc k) f g e =
-      ap₂ _∷_ (e 0 (suc-le-suc zero-le) (λ q. omega arith))
-      (tabulate-set n k (λ j. f (suc j)) (λ j. g (suc j)) (λ j l d. e (suc j) (suc-le-suc l) (λ q. d (omega arith))))
+  -- a list by its own cells
+  pub tabulate-cells : (n : ℕ) (xs : List A) (z : A) → length xs ≡ n → tabulate n (λ k. getD xs k z) ≡ xs
+  tabulate-cells zero [] z e = refl
+  tabulate-cells zero (x ∷ xs) z e = absurd (omega (arith, e))
+  tabulate-cells (suc n) [] z e = absurd (omega (arith, e))
+  tabulate-cells (suc n) (x ∷ xs) z e = ap (λ l. x ∷ l) (tabulate-cells n xs z (omega (arith, e)))

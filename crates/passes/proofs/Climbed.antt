@@ -20,8 +20,7 @@ use Rattle.halfedges.specs.Cage.{NEXT, PREV, most-halfedges, most-depth, cell}
 use Rattle.halfedges.specs.Internal.Counts.{AtMost}
 use Rattle.halfedges.specs.Counts.{finer, countsAt, Hs, Vs}
 use Rattle.halfedges.proofs.Triangle.{prev-next, next-below, prev-below, next-past}
-use Rattle.halfedges.proofs.Growth.{levels-at-most}
-use Rattle.halfedges.proofs.FirstLevels.{counts-more}
+use Rattle.halfedges.proofs.Growth.{counts-more, levels-at-most}
 use Rattle.tables.specs.Tables.{Tables}
 use Rattle.splitting.specs.NextLevel.{newVert, nextVerts, level}
 use Rattle.levels.specs.Refining.{levelsEndToEnd}

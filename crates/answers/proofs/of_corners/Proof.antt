@@ -1,6 +1,6 @@
 -- `of_corners` puts number and place in cells, and the corners as they are.
 use borrow.Author.Needs.{needs}
-use Rattle.answers.proofs.CellPlaces.{three}
+use Rattle.laws.proofs.Tabulate.{tabulate-cells}
 use Rattle.answers.proofs.of_corners.Statement.{statement}
 use Rattle.answers.proofs.of_corners.Tie as tie
 
@@ -28,7 +28,7 @@ array-read-t15 c = search needs
 returns : tie.Need-returns
 returns c =
     let s = c .before .before .before in
-    cc (three (s .args .corners .corners) (s .pre .1), c .before .place .ensures, c .before .before .number .ensures)
+    cc (tabulate-cells 3 (s .args .corners .corners) 0 (s .pre .1), c .before .place .ensures, c .before .before .number .ensures)
 
 pub of-corners-spec : {M : Type 1} → statement M
 of-corners-spec =

@@ -1,82 +1,191 @@
--- `of_counts` has put the numbers of the places passed in their cells.
+-- `of_counts` has number and place, three times seven numbers and the two rooms in their cells.
 use borrow.Author.Needs.{needs}
-use Prim.Native.Nat.{ℕ, _-_, _≤_}
-use mathlib.Core.Path.{_≡_, ap, _∙_}
-use mathlib.Core.List.{List, append-nil}
-use native.Mathlib.Omega.{arith}
-use lib.ListN.{length, getD, set, replicate}
-use lib.Seq.{paste, paste-zero}
-use Rattle.laws.specs.Parts.{inFront}
-use Rattle.laws.proofs.InFront.{copied-more, copied-all}
+use Prim.Native.Nat.{ℕ, _<_}
+use mathlib.Core.Path.{_≡_, ap, ap₂}
+use mathlib.Core.List.{List, [], _∷_, _++_}
+use lib.ListN.{length, getD}
+use Rattle.laws.specs.Below.{tabulate}
+use Rattle.laws.proofs.Tabulate.{tabulate-cells}
+use Rattle.halfedges.specs.declared.table.Levels.{Levels}
+use Rattle.halfedges.specs.Refusals.{Said}
 use Rattle.halfedges.specs.Counts.{counted as Counts·counted}
-use Rattle.answers.specs.Cells.{levelCells}
-use Rattle.answers.proofs.Small.{fitting-at}
-use Rattle.answers.proofs.CellPlaces.{length-cells}
+use Rattle.answers.specs.Cells.{levelNumbers, levelCells}
+use Rattle.answers.specs.Internal.Fitting.{Fitting, Sevens}
+use Rattle.answers.proofs.Small.{fitting-front, fitting-rest}
 use Rattle.answers.proofs.of_counts.Statement.{statement}
 use Rattle.answers.proofs.of_counts.Tie as tie
 
--- nothing of the zeros is left
-all-of : (xs : List ℕ) → length xs ≡ 25 → inFront xs (replicate 25 0) ≡ xs
-all-of xs e = rw e (append-nil xs)
+-- the first seven cells of a list
+abbrev seven : List ℕ → List ℕ
+seven xs = tabulate 7 (λ k. getD xs k 0)
 
-abbrev Inv-loop : tie.InvT-loop
-Inv-loop counted numbers₀ place₀ numbers place = (numbers ≡ paste (replicate 25 0) 0 (levelCells (Counts·counted counted)) place) × (place ≤ 25)
+seven-all : (xs : List ℕ) → length xs ≡ 7 → seven xs ≡ xs
+seven-all xs e = tabulate-cells 7 xs 0 e
 
-abbrev μ-loop : tie.MeasureT-loop
-μ-loop counted numbers₀ place₀ numbers place = 25 - place
+-- the cells, one beside the other
+laid :
+    (s : Said Levels) → Sevens (s .values) → {n p : ℕ} {h e v : List ℕ} →
+    n ≡ s .verdict .number → p ≡ s .verdict .place → h ≡ s .values .halfedges → e ≡ s .values .edges → v ≡ s .values .vertices →
+    n ∷ p ∷ (seven h ++ (seven e ++ (seven v ++ (s .values .«halfedge_room» ∷ s .values .«vertex_room» ∷ [])))) ≡ levelCells s
+laid s w n p h e v =
+    let l = s .values in
+    rw (n, p, h, e, v)
+    (ap (λ xs. s .verdict .number ∷ s .verdict .place ∷ xs)
+    (ap₂ _++_ (seven-all (l .halfedges) (w .halfedges))
+    (ap₂ _++_ (seven-all (l .edges) (w .edges)) (ap (λ xs. xs ++ (l .«halfedge_room» ∷ l .«vertex_room» ∷ [])) (seven-all (l .vertices) (w .vertices))))))
 
-loop-holds : tie.Need-loop-holds Inv-loop μ-loop
-loop-holds c = (paste-zero (replicate 25 0) 0 (levelCells (Counts·counted (c .args .counted))), omega arith)
+-- what of the counts fits
+record Parts (l : Levels) : Type 0 where
+  halfedges : Fitting (l .halfedges)
+  edges : Fitting (l .edges)
+  vertices : Fitting (l .vertices)
+  halfedge-room : l .«halfedge_room» < 4294967296
+  vertex-room : l .«vertex_room» < 4294967296
 
-count-at-requires : tie.Need-count-at-requires Inv-loop μ-loop
-count-at-requires c κs = (c .before .before .pre .0, c .loop-test .taken)
+parts : (l : Levels) → Fitting (levelNumbers l) → Parts l
+parts l f =
+    let g = fitting-rest (l .halfedges) _ f in
+    let i = fitting-rest (l .edges) _ g in
+    let r = fitting-rest (l .vertices) (l .«halfedge_room» ∷ l .«vertex_room» ∷ []) i in
+    record {
+      halfedges = fitting-front (l .halfedges) _ f;
+      edges = fitting-front (l .edges) _ g;
+      vertices = fitting-front (l .vertices) _ i;
+      halfedge-room = r .0;
+      vertex-room = r .1 .0;
+    }
 
-cast-numbers : tie.Need-cast-numbers Inv-loop μ-loop
-cast-numbers c =
-    let i = c .before .before in
-    rw (c .count-at .ensures) (record { fits = fitting-at (levelCells (Counts·counted (i .before .args .counted))) (i .loop .place) (i .before .pre .1) })
+number-requires : tie.Need-number-requires
+number-requires c κs = search needs
 
-mul-numbers : tie.Need-mul-numbers Inv-loop μ-loop
-mul-numbers c = search needs
+cast-number : tie.Need-cast-number
+cast-number c = search needs
 
-array-write-numbers : tie.Need-array-write-numbers Inv-loop μ-loop
-array-write-numbers c = c .before .loop-test .taken
+place-requires : tie.Need-place-requires
+place-requires c κs = search needs
 
-add-place : tie.Need-add-place Inv-loop μ-loop
-add-place c = search needs
+cast-place : tie.Need-cast-place
+cast-place c = search needs
 
-loop-less : tie.Need-loop-less Inv-loop μ-loop
-loop-less c = search needs
+of-seven-requires : tie.Need-of-seven-requires
+of-seven-requires c κs = let s = c .before .before .before .before .before .before in (parts (s .args .counted .levels) (s .pre .1 .1 .1) .halfedges, s .pre .0 .halfedges)
 
-loop-again : tie.Need-loop-again Inv-loop μ-loop
-loop-again c =
-    let i = c .before .before in
-    let s = i .before in (
-      rw (c .count-at .ensures)
-          (ap (λ l. set l (i .loop .place) (getD (levelCells (Counts·counted (s .args .counted))) (i .loop .place) 0)) (i .loop .inv .0)
-          ∙ copied-more (levelCells (Counts·counted (s .args .counted))) (replicate 25 0) (i .loop .place) 0 (c .before .loop-test .taken) (omega (arith, length-cells (Counts·counted (s .args .counted)) (s .pre .0)))),
-      omega arith,
-    )
+of-seven-requires-2 : tie.Need-of-seven-requires-2
+of-seven-requires-2 c κs = let s = c .before .before .before .before .before .before .before in (parts (s .args .counted .levels) (s .pre .1 .1 .1) .edges, s .pre .0 .edges)
 
-returns : tie.Need-returns Inv-loop μ-loop
+of-seven-requires-3 : tie.Need-of-seven-requires-3
+of-seven-requires-3 c κs = let s = c .before .before .before .before .before .before .before .before in (parts (s .args .counted .levels) (s .pre .1 .1 .1) .vertices, s .pre .0 .vertices)
+
+cast-halfedge-room : tie.Need-cast-halfedge-room
+cast-halfedge-room c = let s = c .before .before .before .before .before .before .before .before .before .before in record { fits = parts (s .args .counted .levels) (s .pre .1 .1 .1) .halfedge-room }
+
+cast-vertex-room : tie.Need-cast-vertex-room
+cast-vertex-room c = let s = c .before .before .before .before .before .before .before .before .before .before .before in record { fits = parts (s .args .counted .levels) (s .pre .1 .1 .1) .vertex-room }
+
+array-read-t18 : tie.Need-array-read-t18
+array-read-t18 c = search needs
+
+array-read-t21 : tie.Need-array-read-t21
+array-read-t21 c = search needs
+
+array-read-t24 : tie.Need-array-read-t24
+array-read-t24 c = search needs
+
+array-read-t27 : tie.Need-array-read-t27
+array-read-t27 c = search needs
+
+array-read-t30 : tie.Need-array-read-t30
+array-read-t30 c = search needs
+
+array-read-t33 : tie.Need-array-read-t33
+array-read-t33 c = search needs
+
+array-read-t36 : tie.Need-array-read-t36
+array-read-t36 c = search needs
+
+array-read-t39 : tie.Need-array-read-t39
+array-read-t39 c = search needs
+
+array-read-t42 : tie.Need-array-read-t42
+array-read-t42 c = search needs
+
+array-read-t45 : tie.Need-array-read-t45
+array-read-t45 c = search needs
+
+array-read-t48 : tie.Need-array-read-t48
+array-read-t48 c = search needs
+
+array-read-t51 : tie.Need-array-read-t51
+array-read-t51 c = search needs
+
+array-read-t54 : tie.Need-array-read-t54
+array-read-t54 c = search needs
+
+array-read-t57 : tie.Need-array-read-t57
+array-read-t57 c = search needs
+
+array-read-t60 : tie.Need-array-read-t60
+array-read-t60 c = search needs
+
+array-read-t63 : tie.Need-array-read-t63
+array-read-t63 c = search needs
+
+array-read-t66 : tie.Need-array-read-t66
+array-read-t66 c = search needs
+
+array-read-t69 : tie.Need-array-read-t69
+array-read-t69 c = search needs
+
+array-read-t72 : tie.Need-array-read-t72
+array-read-t72 c = search needs
+
+array-read-t75 : tie.Need-array-read-t75
+array-read-t75 c = search needs
+
+array-read-t78 : tie.Need-array-read-t78
+array-read-t78 c = search needs
+
+returns : tie.Need-returns
 returns c =
-    let i = c .before in
-    let s = i .before in
-    let long = length-cells (Counts·counted (s .args .counted)) (s .pre .0) in
-    i .loop .inv .0 ∙ copied-all (levelCells (Counts·counted (s .args .counted))) (replicate 25 0) (i .loop .place) (omega (arith, i .loop .inv .1, long)) ∙ all-of _ long
+    let v = c .before .before in
+    let e = v .before in
+    let h = e .before in
+    let p = h .before .before .before .before .before in
+    let n = p .before in
+    laid (Counts·counted (n .before .args .counted)) (n .before .pre .0) (n .number .ensures) (p .place .ensures) (h .of-seven .ensures) (e .of-seven2 .ensures) (v .of-seven3 .ensures)
 
 pub of-counts-spec : {M : Type 1} → statement M
 of-counts-spec =
     tie.close
     (tie.spec
-    Inv-loop
-    μ-loop
-    loop-holds
-    count-at-requires
-    cast-numbers
-    mul-numbers
-    array-write-numbers
-    add-place
-    loop-less
-    loop-again
+    number-requires
+    cast-number
+    place-requires
+    cast-place
+    of-seven-requires
+    of-seven-requires-2
+    of-seven-requires-3
+    cast-halfedge-room
+    cast-vertex-room
+    array-read-t18
+    array-read-t21
+    array-read-t24
+    array-read-t27
+    array-read-t30
+    array-read-t33
+    array-read-t36
+    array-read-t39
+    array-read-t42
+    array-read-t45
+    array-read-t48
+    array-read-t51
+    array-read-t54
+    array-read-t57
+    array-read-t60
+    array-read-t63
+    array-read-t66
+    array-read-t69
+    array-read-t72
+    array-read-t75
+    array-read-t78
     returns)

@@ -1,112 +1,77 @@
--- `levels` keeps the levels stored so far, the next level's counts beside them, and sums that stay far below 2^64.
-use Prim.Native.Nat.{ℕ, _+_, _*_, _-_, _^_, _≤_}
-use mathlib.Core.Path.{_≡_, _∙_}
-use borrow.Author.Needs.{needs}
-use native.Mathlib.Numerals.{add-one}
+-- `levels` has each level's counts from `within`, and the two sums.
 use native.Mathlib.Omega.{arith}
-use Rattle.laws.proofs.Sums.{sum-at-most}
-use Rattle.halfedges.specs.Cage.{most-halfedges}
-use Rattle.halfedges.specs.Internal.Counts.{AtMost}
-use Rattle.halfedges.specs.Counts.{countsAt}
-use Rattle.halfedges.proofs.Growth.{levels-at-most}
-use Rattle.halfedges.proofs.FirstLevels.{firstLevels, counts-more, more-levels, all-levels}
+use borrow.Author.Needs.{needs}
+use borrow.Author.Tests.{le-leb}
+use Prim.Native.Nat.{ℕ}
+use mathlib.Core.Path.{_≡_}
+use mathlib.Core.List.{[], _∷_}
+use Rattle.halfedges.specs.declared.table.HalfedgeTable.{HalfedgeTable}
+use Rattle.halfedges.specs.Internal.Counts.{countsWithin}
+use Rattle.halfedges.specs.Counts.{countsAt, roomH, roomV, seven, levels}
 use Rattle.halfedges.proofs.table.HalfedgeTable.levels.Statement.{statement}
 use Rattle.halfedges.proofs.table.HalfedgeTable.levels.Tie as tie
-use Rattle.halfedges.proofs.table.HalfedgeTable.levels.Reads as reads
-use Rattle.halfedges.proofs.table.HalfedgeTable.levels.Lts as lts
 
-abbrev Inv-loop : tie.InvT-loop
-Inv-loop depth table₀ levels₀ level₀ table levels level = (levels ≡ firstLevels table₀ level) × (table ≡ countsAt table₀ level) × (level ≤ depth + 1)
+-- the levels, one beside the other
+laid :
+    (t : HalfedgeTable) (depth : ℕ) {a b c d e f : HalfedgeTable} {h v : ℕ} →
+    a ≡ countsWithin t depth 1 → b ≡ countsWithin t depth 2 → c ≡ countsWithin t depth 3 → d ≡ countsWithin t depth 4 → e ≡ countsWithin t depth 5 → f ≡ countsWithin t depth 6 →
+    h ≡ roomH t depth → v ≡ roomV t depth →
+    record {
+      halfedges = t .halfedges ∷ a .halfedges ∷ b .halfedges ∷ c .halfedges ∷ d .halfedges ∷ e .halfedges ∷ f .halfedges ∷ [];
+      edges = t .edges ∷ a .edges ∷ b .edges ∷ c .edges ∷ d .edges ∷ e .edges ∷ f .edges ∷ [];
+      vertices = t .vertices ∷ a .vertices ∷ b .vertices ∷ c .vertices ∷ d .vertices ∷ e .vertices ∷ f .vertices ∷ [];
+      «halfedge_room» = h;
+      «vertex_room» = v;
+    } ≡ levels t depth
+unfolding levels seven countsAt
+laid t depth a b c d e f h v = rw (a, b, c, d, e, f, h, v, le-leb 0 depth (omega arith))
 
-abbrev μ-loop : tie.MeasureT-loop
-μ-loop depth table₀ levels₀ level₀ table levels level = depth + 1 - level
+within-requires : tie.Need-within-requires
+within-requires c κs = search needs
 
-module _ (c : tie.In-loop Inv-loop μ-loop) where
-  -- no count in the loop is above what level 6 can have
-  small : (k : ℕ) → k ≤ 6 → AtMost (4 ^ 6 * most-halfedges) (countsAt (c .before .before .before .args .self) k)
-  small = levels-at-most most-halfedges 6 _ (c .before .before .before .pre .0)
+within-requires-2 : tie.Need-within-requires-2
+within-requires-2 c κs = search needs
 
-  here : AtMost (4 ^ 6 * most-halfedges) (c .before .loop .table)
-  here = rw (c .before .loop .inv .1) (small (c .before .loop .level) (omega arith))
+within-requires-3 : tie.Need-within-requires-3
+within-requires-3 c κs = search needs
 
-  sums : (c .before .loop .levels .«halfedge_room» ≤ c .before .loop .level * (4 ^ 6 * most-halfedges)) × (c .before .loop .levels .«vertex_room» ≤ c .before .loop .level * (4 ^ 6 * most-halfedges))
-  sums =
-      rw (c .before .loop .inv .0)
-      (sum-at-most _ _ _ (λ k l. small k (omega arith) .halfedges), sum-at-most _ _ _ (λ k l. small k (omega arith) .vertices))
+within-requires-4 : tie.Need-within-requires-4
+within-requires-4 c κs = search needs
 
-none-requires : tie.Need-none-requires Inv-loop μ-loop
-none-requires c κs = search needs
+within-requires-5 : tie.Need-within-requires-5
+within-requires-5 c κs = search needs
 
-loop-holds : tie.Need-loop-holds Inv-loop μ-loop
-unfolding countsAt
-loop-holds c = search needs
+within-requires-6 : tie.Need-within-requires-6
+within-requires-6 c κs = search needs
 
-mul-levels : tie.Need-mul-levels Inv-loop μ-loop
-mul-levels c = search needs
+halfedge-room-requires : tie.Need-halfedge-room-requires
+halfedge-room-requires c κs = search needs
 
-element-write-levels : tie.Need-element-write-levels Inv-loop μ-loop
-element-write-levels c = search needs
+vertex-room-requires : tie.Need-vertex-room-requires
+vertex-room-requires c κs = search needs
 
-mul-levels-2 : tie.Need-mul-levels-2 Inv-loop μ-loop
-mul-levels-2 c = search needs
-
-element-write-levels-2 : tie.Need-element-write-levels-2 Inv-loop μ-loop
-element-write-levels-2 c = search needs
-
-mul-levels-3 : tie.Need-mul-levels-3 Inv-loop μ-loop
-mul-levels-3 c = search needs
-
-element-write-levels-3 : tie.Need-element-write-levels-3 Inv-loop μ-loop
-element-write-levels-3 c = search needs
-
-add-levels : tie.Need-add-levels Inv-loop μ-loop
-add-levels c = omega (arith, here (c .before), sums (c .before))
-
-add-levels-2 : tie.Need-add-levels-2 Inv-loop μ-loop
-add-levels-2 c = omega (arith, here (c .before .before), sums (c .before .before))
-
-finer-requires : tie.Need-finer-requires Inv-loop μ-loop
-finer-requires c κs = omega (arith, here (c .before .before))
-
-add-level : tie.Need-add-level Inv-loop μ-loop
-add-level c = search needs
-
-loop-less : tie.Need-loop-less Inv-loop μ-loop
-loop-less c = search needs
-
-loop-again : tie.Need-loop-again Inv-loop μ-loop
-loop-again c =
-    let i = c .before .before .before .before .loop in
-    let t = c .before .before .before .before .before .before .args .self in (
-      rw (i .inv .0, i .inv .1) (more-levels t (i .level)),
-      c .finer .ensures ∙ rw (i .inv .1) (counts-more t (i .level)),
-      omega arith,
-    )
-
-returns : tie.Need-returns Inv-loop μ-loop
+returns : tie.Need-returns
 returns c =
-    let b = c .before .before .before .args in
-    let e : c .before .loop .level ≡ b .depth + 1 = omega arith in
-    c .before .loop .inv .0 ∙ rw (e, add-one) (all-levels (b .self) (b .depth))
+    let h = c .before in
+    let six = h .before in
+    let five = six .before in
+    let four = five .before in
+    let three = four .before in
+    let two = three .before in
+    let one = two .before in
+    laid (one .before .args .self) (one .before .args .depth) (one .within .ensures) (two .within2 .ensures) (three .within3 .ensures) (four .within4 .ensures) (five .within5 .ensures)
+    (six .within6 .ensures) (h .halfedge-room .ensures) (c .vertex-room .ensures)
 
 pub levels-spec : {M : Type 1} → statement M
 levels-spec =
     tie.close
     (tie.spec
-    Inv-loop
-    μ-loop
-    none-requires
-    loop-holds
-    mul-levels
-    element-write-levels
-    mul-levels-2
-    element-write-levels-2
-    mul-levels-3
-    element-write-levels-3
-    add-levels
-    add-levels-2
-    finer-requires
-    add-level
-    loop-less
-    loop-again
+    within-requires
+    within-requires-2
+    within-requires-3
+    within-requires-4
+    within-requires-5
+    within-requires-6
+    halfedge-room-requires
+    vertex-room-requires
     returns)
