@@ -1,5 +1,5 @@
-// The report: the proved library beside other engines, in refining, in building and in writing STL, its cost by depth, and
-// its other operations by size.
+// The report: the proved library beside other engines, in refining, in building, in writing STL and in the count question, its
+// cost by depth, and its other operations by size.
 #include <cmath>
 #include <cstdio>
 #include <cstring>
@@ -9,6 +9,7 @@
 
 #include "building.h"
 #include "clock.h"
+#include "counts.h"
 #include "engines.h"
 #include "library.h"
 #include "rows.h"
@@ -154,10 +155,10 @@ int main(int count, char** words) try {
     std::fprintf(stderr, "usage: bench/run [--bars]\n");
     return 2;
   }
-  const bool refining = print_engines(), building = print_building(), stl = print_stl();
+  const bool refining = print_engines(), building = print_building(), stl = print_stl(), counts = print_counts();
   print_depths();
   print_operations();
-  return bars && !(refining && building && stl) ? 1 : 0;
+  return bars && !(refining && building && stl && counts) ? 1 : 0;
 } catch (const std::exception& fault) {
   std::fprintf(stderr, "bench/run: %s\n", fault.what());
   return 3;
