@@ -12,6 +12,20 @@ fn every_count_question_to_try() {
     }
 }
 
+/// With the least and the most E and V.
+#[test]
+fn every_number_of_halfedges_at_every_depth() {
+    for h in (3..=3_072_u64).step_by(3) {
+        for e in [h.div_ceil(2), h] {
+            for v in [1, 2_048] {
+                for depth in 0..=6 {
+                    assert_alike("closed forms", &Question::Counts([h, e, v, depth]));
+                }
+            }
+        }
+    }
+}
+
 #[test]
 fn every_corner_question_to_try() {
     let questions = corners::questions();
