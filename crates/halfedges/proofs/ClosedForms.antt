@@ -16,16 +16,15 @@ levelBy t p =
       vertices = t .vertices + (p - 1) * t .edges + (p * p + 2 - 3 * p) / 2 * t .halfedges / 3;
     }
 
--- the sum of H, and that of V from level 0
+-- the sum of H, and that of V, from level 0
 abbrev pub roomHBy : HalfedgeTable → ℕ → ℕ
 roomHBy t p = (4 * (p * p) - 1) * t .halfedges / 3
 
 abbrev pub roomVBy : HalfedgeTable → ℕ → ℕ → ℕ
-roomVBy t k p =
-    (k + 1) * t .vertices + (2 * p - (k + 2)) * t .edges + (2 * (p * p) + 3 * k + 7 - 9 * p) * t .halfedges / 9
+roomVBy t k p = (k + 1) * t .vertices + (2 * p - (k + 2)) * t .edges + (2 * (p * p) + 3 * k + 7 - 9 * p) * t .halfedges / 9
 
--- the same without divisions: how often H is in E and in V of level k, and in the sums of H and of V up to it
-pub record Whole (t : HalfedgeTable) (k p : ℕ) : Type 0 where
+-- how often H is in E and in V of level k, and in the sums of H and of V up to it: whole numbers
+pub record Factors (k p : ℕ) : Type 0 where
   pub inE : ℕ
   pub inV : ℕ
   pub inHs : ℕ
@@ -36,46 +35,12 @@ pub record Whole (t : HalfedgeTable) (k p : ℕ) : Type 0 where
   pub ninefold : 9 * inVs + 9 * p ≡ 2 * (p * p) + 3 * k + 7
   pub positive : 1 ≤ p
   pub enough : k + 2 ≤ 2 * p
-  pub halfedges : Hs t k ≡ p * p * t .halfedges
-  pub edges : Es t k ≡ p * t .edges + inE * t .halfedges
-  pub vertices : Vs t k + t .edges ≡ t .vertices + p * t .edges + inV * t .halfedges
-  pub halfedge-room : roomH t k ≡ inHs * t .halfedges
-  pub vertex-room : roomV t k + (k + 2) * t .edges ≡ (k + 1) * t .vertices + 2 * p * t .edges + inVs * t .halfedges
 
 square-doubled : (p : ℕ) → 2 * p * (2 * p) ≡ 4 * (p * p)
 square-doubled p = omega (arith, mul-assoc 2 p (2 * p), mul-comm p (2 * p), mul-assoc 2 p p)
 
-whole-next : (t : HalfedgeTable) (k p : ℕ) → Whole t k p → Whole t (suc k) (2 * p)
-unfolding countsAt
-whole-next t k p w =
-    let inE = w .inE in
-    let inV = w .inV in
-    let h = t .halfedges in
-    let e = t .edges in
-    let q = square-doubled p in
-    let qh : 2 * p * (2 * p) * h ≡ 4 * (p * p * h) = ap (λ n. n * h) q ∙ mul-assoc 4 (p * p) h in
-    record {
-      inE = 2 * inE + p * p;
-      inV = inV + inE;
-      inHs = w .inHs + 4 * (p * p);
-      inVs = w .inVs + (inV + inE);
-      twice = omega (arith, q, w .twice);
-      sixfold = omega (arith, q, w .sixfold, w .twice);
-      threefold = omega (arith, q, w .threefold);
-      ninefold = omega (arith, q, w .ninefold, w .sixfold, w .twice);
-      positive = omega (arith, w .positive);
-      enough = omega (arith, w .positive, w .enough);
-      halfedges = omega (arith, qh, w .halfedges);
-      edges = omega (arith, mul-assoc 2 p e, add-mul (2 * inE) (p * p) h, mul-assoc 2 inE h, w .edges, w .halfedges);
-      vertices = omega (arith, mul-assoc 2 p e, add-mul inV inE h, w .vertices, w .edges);
-      halfedge-room = omega (arith, add-mul (w .inHs) (4 * (p * p)) h, mul-assoc 4 (p * p) h, w .halfedge-room, w .halfedges);
-      vertex-room =
-          omega (arith, mul-assoc 2 p e, mul-assoc 2 (2 * p) e, add-mul (w .inVs) (inV + inE) h, add-mul inV inE h, add-mul 1 (k + 2) e, add-mul 1 (k + 1) (t .vertices), w .vertex-room, w .vertices, w .edges);
-    }
-
-pub whole : (t : HalfedgeTable) (k : ℕ) → Whole t k (2 ^ k)
-unfolding countsAt
-whole t zero =
+abbrev factors-first : Factors 0 1
+factors-first =
     record {
       inE = 0;
       inV = 0;
@@ -87,15 +52,82 @@ whole t zero =
       ninefold = refl;
       positive = omega arith;
       enough = omega arith;
+    }
+
+abbrev factors-next : (k p : ℕ) → Factors k p → Factors (suc k) (2 * p)
+factors-next k p f =
+    let q = square-doubled p in
+    record {
+      inE = 2 * f .inE + p * p;
+      inV = f .inV + f .inE;
+      inHs = f .inHs + 4 * (p * p);
+      inVs = f .inVs + (f .inV + f .inE);
+      twice = omega (arith, q, f .twice);
+      sixfold = omega (arith, q, f .sixfold, f .twice);
+      threefold = omega (arith, q, f .threefold);
+      ninefold = omega (arith, q, f .ninefold, f .sixfold, f .twice);
+      positive = omega (arith, f .positive);
+      enough = omega (arith, f .positive, f .enough);
+    }
+
+pub factors : (k : ℕ) → Factors k (2 ^ k)
+factors zero = factors-first
+factors (suc k) = rw (pow-suc 2 k, mul-comm (2 ^ k) 2) (factors-next k (2 ^ k) (factors k))
+
+-- the recurrences' counts and sums by these factors
+record Counted (t : HalfedgeTable) (k p : ℕ) : Type 0 where
+  by : Factors k p
+  halfedges : Hs t k ≡ p * p * t .halfedges
+  edges : Es t k ≡ p * t .edges + by .inE * t .halfedges
+  vertices : Vs t k + t .edges ≡ t .vertices + p * t .edges + by .inV * t .halfedges
+  halfedge-room : roomH t k ≡ by .inHs * t .halfedges
+  vertex-room : roomV t k + (k + 2) * t .edges ≡ (k + 1) * t .vertices + 2 * p * t .edges + by .inVs * t .halfedges
+
+counted-next : (t : HalfedgeTable) (k p : ℕ) → Counted t k p → Counted t (suc k) (2 * p)
+unfolding countsAt
+counted-next t k p c =
+    let h = t .halfedges in
+    let e = t .edges in
+    let f = c .by in
+    let q : 2 * p * (2 * p) * h ≡ 4 * (p * p * h) = ap (λ n. n * h) (square-doubled p) ∙ mul-assoc 4 (p * p) h in
+    record {
+      by = factors-next k p f;
+      halfedges = omega (arith, q, c .halfedges);
+      edges = omega (arith, mul-assoc 2 p e, add-mul (2 * f .inE) (p * p) h, mul-assoc 2 (f .inE) h, c .edges, c .halfedges);
+      vertices = omega (arith, mul-assoc 2 p e, add-mul (f .inV) (f .inE) h, c .vertices, c .edges);
+      halfedge-room = omega (arith, add-mul (f .inHs) (4 * (p * p)) h, mul-assoc 4 (p * p) h, c .halfedge-room, c .halfedges);
+      vertex-room =
+          omega (arith, mul-assoc 2 p e, mul-assoc 2 (2 * p) e, add-mul (f .inVs) (f .inV + f .inE) h, add-mul (f .inV) (f .inE) h, add-mul 1 (k + 2) e, add-mul 1 (k + 1) (t .vertices), c .vertex-room, c .vertices, c .edges);
+    }
+
+counted-at : (t : HalfedgeTable) (k : ℕ) → Counted t k (2 ^ k)
+unfolding countsAt
+counted-at t zero =
+    record {
+      by = factors-first;
       halfedges = omega arith;
       edges = omega arith;
       vertices = omega arith;
       halfedge-room = omega arith;
       vertex-room = omega arith;
     }
-whole t (suc k) = rw (pow-suc 2 k, mul-comm (2 ^ k) 2) (whole-next t k (2 ^ k) (whole t k))
+counted-at t (suc k) = rw (pow-suc 2 k, mul-comm (2 ^ k) 2) (counted-next t k (2 ^ k) (counted-at t k))
 
--- a part of a multiple: it is exact, and what was multiplied
+-- what is divided leaves nothing over
+pub record Exact (t : HalfedgeTable) (k p : ℕ) : Type 0 where
+  pub edges-half : (p * p - p) % 2 ≡ 0
+  pub vertices-half : (p * p + 2 - 3 * p) % 2 ≡ 0
+  pub vertices-third : (p * p + 2 - 3 * p) / 2 * t .halfedges % 3 ≡ 0
+  pub halfedge-room-third : (4 * (p * p) - 1) * t .halfedges % 3 ≡ 0
+  pub vertex-room-ninth : (2 * (p * p) + 3 * k + 7 - 9 * p) * t .halfedges % 9 ≡ 0
+
+-- the level and the room
+pub record Closed (t : HalfedgeTable) (k p : ℕ) : Type 0 where
+  pub level : levelBy t p ≡ countsAt t k
+  pub halfedge-room : roomHBy t p ≡ roomH t k
+  pub vertex-room : roomVBy t k p ≡ roomV t k
+
+-- a part of a multiple leaves nothing over, and is what was multiplied
 nothing-over : (d n m : ℕ) → d * n * m % d ≡ 0
 nothing-over d n m = rw (mul-assoc d n m) (mul-mod-right d (n * m))
 
@@ -110,69 +142,57 @@ in-parts a b m e = ap (λ n. n * m) e ∙ add-mul a b m
 same-counts : {h e v : ℕ} (t : HalfedgeTable) → h ≡ t .halfedges → e ≡ t .edges → v ≡ t .vertices → record { halfedges = h; edges = e; vertices = v } ≡ t
 same-counts t h e v = rw (h, e, v)
 
--- what is divided leaves nothing over
-pub record Exact (t : HalfedgeTable) (k p : ℕ) : Type 0 where
-  pub edges-half : (p * p - p) % 2 ≡ 0
-  pub vertices-half : (p * p + 2 - 3 * p) % 2 ≡ 0
-  pub vertices-third : (p * p + 2 - 3 * p) / 2 * t .halfedges % 3 ≡ 0
-  pub halfedge-room-third : (4 * (p * p) - 1) * t .halfedges % 3 ≡ 0
-  pub vertex-room-ninth : (2 * (p * p) + 3 * k + 7 - 9 * p) * t .halfedges % 9 ≡ 0
+module _ (k p : ℕ) (f : Factors k p) where
+  edges-half : (p * p - p) / 2 ≡ f .inE
+  edges-half = omega (arith, f .twice)
 
-module _ (t : HalfedgeTable) (k p : ℕ) (w : Whole t k p) where
-  edges-half : (p * p - p) / 2 ≡ w .inE
-  edges-half = omega (arith, w .twice)
+  vertices-half : (p * p + 2 - 3 * p) / 2 ≡ 3 * f .inV
+  vertices-half = omega (arith, f .sixfold)
 
-  vertices-half : (p * p + 2 - 3 * p) / 2 ≡ 3 * w .inV
-  vertices-half = omega (arith, w .sixfold)
+  halfedge-room-factor : 4 * (p * p) - 1 ≡ 3 * f .inHs
+  halfedge-room-factor = omega (arith, f .threefold)
 
-  halfedge-room-factor : 4 * (p * p) - 1 ≡ 3 * w .inHs
-  halfedge-room-factor = omega (arith, w .threefold)
+  vertex-room-factor : 2 * (p * p) + 3 * k + 7 - 9 * p ≡ 9 * f .inVs
+  vertex-room-factor = omega (arith, f .ninefold)
 
-  vertex-room-factor : 2 * (p * p) + 3 * k + 7 - 9 * p ≡ 9 * w .inVs
-  vertex-room-factor = omega (arith, w .ninefold)
-
-  exact : Exact t k p
-  exact =
+  exact : (t : HalfedgeTable) → Exact t k p
+  exact t =
       record {
-        edges-half = omega (arith, w .twice);
-        vertices-half = omega (arith, w .sixfold);
-        vertices-third = rw vertices-half (nothing-over 3 (w .inV) (t .halfedges));
-        halfedge-room-third = rw halfedge-room-factor (nothing-over 3 (w .inHs) (t .halfedges));
-        vertex-room-ninth = rw vertex-room-factor (nothing-over 9 (w .inVs) (t .halfedges));
+        edges-half = omega (arith, f .twice);
+        vertices-half = omega (arith, f .sixfold);
+        vertices-third = rw vertices-half (nothing-over 3 (f .inV) (t .halfedges));
+        halfedge-room-third = rw halfedge-room-factor (nothing-over 3 (f .inHs) (t .halfedges));
+        vertex-room-ninth = rw vertex-room-factor (nothing-over 9 (f .inVs) (t .halfedges));
       }
 
+module _ (t : HalfedgeTable) (k p : ℕ) (c : Counted t k p) where
   edges-closed : p * t .edges + (p * p - p) / 2 * t .halfedges ≡ Es t k
-  edges-closed = rw edges-half (sym (w .edges))
+  edges-closed = rw (edges-half k p (c .by)) (sym (c .edges))
 
   vertices-closed : t .vertices + (p - 1) * t .edges + (p * p + 2 - 3 * p) / 2 * t .halfedges / 3 ≡ Vs t k
   vertices-closed =
-      rw (vertices-half, part-of 3 (w .inV) (t .halfedges) (omega arith))
-      (omega (arith, in-parts {n = p} (p - 1) 1 (t .edges) (omega (arith, w .positive)), w .vertices))
+      rw (vertices-half k p (c .by), part-of 3 (c .by .inV) (t .halfedges) (omega arith))
+      (omega (arith, in-parts {n = p} (p - 1) 1 (t .edges) (omega (arith, c .by .positive)), c .vertices))
 
   halfedge-room-closed : roomHBy t p ≡ roomH t k
-  halfedge-room-closed =
-      rw (halfedge-room-factor, part-of 3 (w .inHs) (t .halfedges) (omega arith)) (sym (w .halfedge-room))
+  halfedge-room-closed = rw (halfedge-room-factor k p (c .by), part-of 3 (c .by .inHs) (t .halfedges) (omega arith)) (sym (c .halfedge-room))
 
   vertex-room-closed : roomVBy t k p ≡ roomV t k
   vertex-room-closed =
-      rw (vertex-room-factor, part-of 9 (w .inVs) (t .halfedges) (omega arith))
-      (omega (arith, in-parts {n = 2 * p} (2 * p - (k + 2)) (k + 2) (t .edges) (omega (arith, w .enough)), w .vertex-room))
+      rw (vertex-room-factor k p (c .by), part-of 9 (c .by .inVs) (t .halfedges) (omega arith))
+      (omega (arith, in-parts {n = 2 * p} (2 * p - (k + 2)) (k + 2) (t .edges) (omega (arith, c .by .enough)), c .vertex-room))
 
--- level k and the room up to it
-pub record Closed (t : HalfedgeTable) (k p : ℕ) : Type 0 where
-  pub level : levelBy t p ≡ countsAt t k
-  pub halfedge-room : roomHBy t p ≡ roomH t k
-  pub vertex-room : roomVBy t k p ≡ roomV t k
+  closed : Closed t k p
+  closed =
+      record {
+        level = same-counts (countsAt t k) (sym (c .halfedges)) edges-closed vertices-closed;
+        halfedge-room = halfedge-room-closed;
+        vertex-room = vertex-room-closed;
+      }
+
+pub exact-divisions : (t : HalfedgeTable) (k : ℕ) → Exact t k (2 ^ k)
+exact-divisions t k = exact k (2 ^ k) (factors k) t
 
 -- one law for every depth
-pub exact-divisions : (t : HalfedgeTable) (k : ℕ) → Exact t k (2 ^ k)
-exact-divisions t k = exact t k (2 ^ k) (whole t k)
-
 pub closed-forms : (t : HalfedgeTable) (k : ℕ) → Closed t k (2 ^ k)
-closed-forms t k =
-    let w = whole t k in
-    record {
-      level = same-counts (countsAt t k) (sym (w .halfedges)) (edges-closed t k (2 ^ k) w) (vertices-closed t k (2 ^ k) w);
-      halfedge-room = halfedge-room-closed t k (2 ^ k) w;
-      vertex-room = vertex-room-closed t k (2 ^ k) w;
-    }
+closed-forms t k = closed t k (2 ^ k) (counted-at t k)

@@ -1,13 +1,14 @@
--- The closed forms as the code takes them: of `1 << k` (`shifted-closed`), with nothing below zero or large on the way (`shifted-small`). Assumes nothing.
-use Prim.Native.Nat.{ℕ, _+_, _*_, _-_, _/_, _%_, _^_, _≤_, _<_}
+-- The closed forms as the code takes them: of `1 << k` (`shifted-closed`), with no step on the way below zero (`shifted-small`) or large (`product-fits`, `two-fit`, `three-fit`). Assumes nothing.
+use Prim.Native.Nat.{ℕ, _+_, _*_, _/_, _%_, _^_, _≤_, _<_}
 use mathlib.Core.Path.{_≡_, _∙_}
-use native.Mathlib.Nat.{pow-le-pow-right, one-mul, mul-le-mul}
+use native.Mathlib.Nat.{le-trans, pow-le-pow-right, one-mul, mul-le-mul, div-le-self}
 use native.Mathlib.Omega.{arith}
 use lib.Pow.{shl-exact}
+use mir.Syntax.{w64}
+use mir.Val.{Fits}
 use Rattle.halfedges.specs.declared.table.HalfedgeTable.{HalfedgeTable}
 use Rattle.halfedges.specs.Cage.{most-halfedges, most-depth}
-use Rattle.halfedges.specs.Internal.Counts.{AtMost}
-use Rattle.halfedges.proofs.ClosedForms.{Whole, whole, Closed, closed-forms}
+use Rattle.halfedges.proofs.ClosedForms.{Factors, factors, Closed, closed-forms}
 
 -- `1 << k`, which the machine has as a product cut to 64 bits
 abbrev pub shifted : ℕ → ℕ
@@ -20,8 +21,8 @@ shifted-whole k d = shl-exact {a = 1} 1 k 64 (omega arith) (omega arith) ∙ one
 pub shifted-closed : (t : HalfedgeTable) (k : ℕ) → k ≤ most-depth → Closed t k (shifted k)
 shifted-closed t k d = rw (shifted-whole k d) (closed-forms t k)
 
--- what the code passes through on its way to these forms: no subtraction goes below zero, and nothing is large
-pub record Small (t : HalfedgeTable) (k p : ℕ) : Type 0 where
+-- the power and its square, and that no subtraction of the closed forms goes below zero
+pub record Small (k p : ℕ) : Type 0 where
   pub positive : 1 ≤ p
   pub few : p ≤ 64
   pub square : p * p ≤ 4096
@@ -29,40 +30,34 @@ pub record Small (t : HalfedgeTable) (k p : ℕ) : Type 0 where
   pub below-half : 3 * p ≤ p * p + 2
   pub below-power : k + 2 ≤ 2 * p
   pub below-ninefold : 9 * p ≤ 2 * (p * p) + 3 * k + 7
-  pub halfedges : p * p * t .halfedges ≤ 50331648
-  pub halved : p * t .edges ≤ 50331648
-  pub across : (p * p - p) / 2 * t .halfedges ≤ 50331648
-  pub added : (p - 1) * t .edges ≤ 50331648
-  pub inside : (p * p + 2 - 3 * p) / 2 * t .halfedges ≤ 50331648
-  pub halfedge-room : (4 * (p * p) - 1) * t .halfedges ≤ 50331648
-  pub kept-room : (k + 1) * t .vertices ≤ 50331648
-  pub added-room : (2 * p - (k + 2)) * t .edges ≤ 50331648
-  pub inside-room : (2 * (p * p) + 3 * k + 7 - 9 * p) * t .halfedges ≤ 50331648
 
-pub shifted-small : (t : HalfedgeTable) (k : ℕ) → AtMost most-halfedges t × (k ≤ most-depth) → Small t k (shifted k)
-shifted-small t k (a, d) = rw (shifted-whole k d) (by (2 ^ k) (whole t k) (pow-le-pow-right (let z : 0 < 2 = omega arith in z) d))
+pub shifted-small : (k : ℕ) → k ≤ most-depth → Small k (shifted k)
+shifted-small k d = rw (shifted-whole k d) (by (2 ^ k) (factors k) (pow-le-pow-right (let z : 0 < 2 = omega arith in z) d))
   where
-    times : (n m : ℕ) → n ≤ 16384 → m ≤ most-halfedges → n * m ≤ 50331648
-    times n m l r = mul-le-mul l r
-
-    by : (p : ℕ) → Whole t k p → p ≤ 64 → Small t k p
-    by p w few =
-        let square : p * p ≤ 4096 = mul-le-mul few few in
+    by : (p : ℕ) → Factors k p → p ≤ 64 → Small k p
+    by p f few =
         record {
-          positive = w .positive;
+          positive = f .positive;
           few = few;
-          square = square;
-          below-square = omega (arith, w .twice);
-          below-half = omega (arith, w .sixfold);
-          below-power = w .enough;
-          below-ninefold = omega (arith, w .ninefold);
-          halfedges = times _ _ (omega arith) (a .halfedges);
-          halved = times _ _ (omega arith) (a .edges);
-          across = times _ _ (omega arith) (a .halfedges);
-          added = times _ _ (omega arith) (a .edges);
-          inside = times _ _ (omega arith) (a .halfedges);
-          halfedge-room = times _ _ (omega arith) (a .halfedges);
-          kept-room = times _ _ (omega arith) (a .vertices);
-          added-room = times _ _ (omega arith) (a .edges);
-          inside-room = times _ _ (omega arith) (a .halfedges);
+          square = mul-le-mul few few;
+          below-square = omega (arith, f .twice);
+          below-half = omega (arith, f .sixfold);
+          below-power = f .enough;
+          below-ninefold = omega (arith, f .ninefold);
         }
+
+-- a factor of the closed forms times a count of the cage, a part of that, and two or three of these together stay far below 2^64
+pub product : {n m : ℕ} → n ≤ 16384 → m ≤ most-halfedges → n * m ≤ 50331648
+product l r = mul-le-mul l r
+
+pub part : {n : ℕ} (d : ℕ) → n ≤ 50331648 → n / d ≤ 50331648
+part {n} d l = le-trans (div-le-self n d) l
+
+pub product-fits : {n m : ℕ} → n ≤ 16384 → m ≤ most-halfedges → Fits w64 (n * m)
+product-fits {n} {m} l r = let p : n * m ≤ 50331648 = product l r in record { fits = omega arith }
+
+pub two-fit : {n m : ℕ} → n ≤ 50331648 → m ≤ 50331648 → Fits w64 (n + m)
+two-fit l r = record { fits = omega arith }
+
+pub three-fit : {n m o : ℕ} → n ≤ 50331648 → m ≤ 50331648 → o ≤ 50331648 → Fits w64 (n + m + o)
+three-fit l r q = record { fits = omega arith }

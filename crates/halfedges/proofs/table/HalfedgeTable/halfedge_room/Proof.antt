@@ -1,21 +1,20 @@
 -- `halfedge_room` is the closed form of the sum.
 use borrow.Author.Needs.{needs}
 use native.Mathlib.Omega.{arith}
-use Rattle.halfedges.proofs.Shifted.{shifted, Small, shifted-closed, shifted-small}
+use Rattle.halfedges.proofs.Shifted.{shifted, Small, shifted-closed, shifted-small, product-fits}
 use Rattle.halfedges.proofs.table.HalfedgeTable.halfedge_room.Statement.{statement}
 use Rattle.halfedges.proofs.table.HalfedgeTable.halfedge_room.Tie as tie
 use Rattle.halfedges.proofs.table.HalfedgeTable.halfedge_room.Reads as reads
 use Rattle.halfedges.proofs.table.HalfedgeTable.halfedge_room.Lts as lts
 
--- nothing on the way is below zero or large
-small : (c : lts.Start reads.Pre reads.Post) → Small (c .args .self) (c .args .depth) (shifted (c .args .depth))
-small c = shifted-small (c .args .self) (c .args .depth) (c .pre)
+small : (c : lts.Start reads.Pre reads.Post) → Small (c .args .depth) (shifted (c .args .depth))
+small c = shifted-small (c .args .depth) (c .pre .1)
 
 shl-power : tie.Need-shl-power
 shl-power c = search needs
 
 mul-result : tie.Need-mul-result
-mul-result c = omega (arith, small c .square)
+mul-result c = product-fits (omega (arith, small c .few)) (omega (arith, small c .few))
 
 mul-result-2 : tie.Need-mul-result-2
 mul-result-2 c = omega (arith, small c .square)
@@ -24,7 +23,7 @@ sub-result : tie.Need-sub-result
 sub-result c = omega (arith, small c .below-square, small c .positive)
 
 mul-result-3 : tie.Need-mul-result-3
-mul-result-3 c = omega (arith, small (c .before) .halfedge-room)
+mul-result-3 c = let s = c .before in product-fits (omega (arith, small s .square)) (s .pre .0 .halfedges)
 
 returns : tie.Need-returns
 returns c = let s = c .before in shifted-closed (s .args .self) (s .args .depth) (s .pre .1) .halfedge-room
