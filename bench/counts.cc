@@ -67,7 +67,8 @@ bool print_counts() {
   bool met = true;
   for (size_t i = 0; i < shallow.size(); ++i) {
     const double ratio = deep[i] / deep[0];
-    std::printf("%-38s %10.1f %10.1f %10.1f %7.2f", kCounters[i].name, 1e9 * shallow[i], 1e9 * deep[i], 1e9 * refused[i], ratio);
+    std::printf("%-38s %10.1f %10.1f %10.1f %7.2f", kCounters[i].name, 1e9 * shallow[i], 1e9 * deep[i], 1e9 * refused[i],
+                ratio);
     const bool pass = ratio >= kCounters[i].bar;
     if (kCounters[i].bar > 0) std::printf("   at least %.2f: %s", kCounters[i].bar, pass ? "pass" : "MISS");
     std::printf("\n");

@@ -1,7 +1,7 @@
 -- The counts of a level and the room up to it, without the levels between: the paper's equations 4 to 6, and sums from level 0, give what the recurrences give, at every depth
 -- (`closed-forms`), and every division in them is exact (`exact-divisions`). Assumes nothing.
 use Prim.Native.Nat.{ℕ, zero, suc, _+_, _*_, _-_, _/_, _%_, _^_, _≤_, _<_}
-use mathlib.Core.Path.{_≡_, refl, sym, ap, _∙_}
+use mathlib.Core.Path.{_≡_, refl, sym, ap, _∙_, subst}
 use native.Mathlib.Nat.{pow-suc, mul-assoc, mul-comm, add-mul, mul-div-cancel-left, mul-mod-right}
 use native.Mathlib.Omega.{arith}
 use Rattle.halfedges.specs.declared.table.HalfedgeTable.{HalfedgeTable}
@@ -35,6 +35,9 @@ pub record Factors (k p : ℕ) : Type 0 where
   pub ninefold : 9 * inVs + 9 * p ≡ 2 * (p * p) + 3 * k + 7
   pub positive : 1 ≤ p
   pub enough : k + 2 ≤ 2 * p
+
+power-doubled : (k : ℕ) → 2 * 2 ^ k ≡ 2 ^ suc k
+power-doubled k = mul-comm 2 (2 ^ k) ∙ sym (pow-suc 2 k)
 
 square-doubled : (p : ℕ) → 2 * p * (2 * p) ≡ 4 * (p * p)
 square-doubled p = omega (arith, mul-assoc 2 p (2 * p), mul-comm p (2 * p), mul-assoc 2 p p)
@@ -72,7 +75,7 @@ factors-next k p f =
 
 pub factors : (k : ℕ) → Factors k (2 ^ k)
 factors zero = factors-first
-factors (suc k) = rw (pow-suc 2 k, mul-comm (2 ^ k) 2) (factors-next k (2 ^ k) (factors k))
+factors (suc k) = subst (Factors (suc k)) (power-doubled k) (factors-next k (2 ^ k) (factors k))
 
 -- the recurrences' counts and sums by these factors
 record Counted (t : HalfedgeTable) (k p : ℕ) : Type 0 where
@@ -111,7 +114,7 @@ counted-at t zero =
       halfedge-room = omega arith;
       vertex-room = omega arith;
     }
-counted-at t (suc k) = rw (pow-suc 2 k, mul-comm (2 ^ k) 2) (counted-next t k (2 ^ k) (counted-at t k))
+counted-at t (suc k) = subst (Counted t (suc k)) (power-doubled k) (counted-next t k (2 ^ k) (counted-at t k))
 
 -- what is divided leaves nothing over
 pub record Exact (t : HalfedgeTable) (k p : ℕ) : Type 0 where

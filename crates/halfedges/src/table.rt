@@ -127,14 +127,15 @@ impl HalfedgeTable {
         requires { ⌜ (AtMost most-halfedges self) × (level ≤ most-depth) ⌝ }
         ensures { λ r. ⌜ r ≡ countsAt self level ⌝ }
     {
+        let halfedges = self.halfedges;
+        let edges = self.edges;
+        let vertices = self.vertices;
         let power = 1 << level;
         let square = power * power;
         HalfedgeTable {
-            halfedges: square * self.halfedges,
-            edges: power * self.edges + (square - power) / 2 * self.halfedges,
-            vertices: self.vertices
-                + (power - 1) * self.edges
-                + (square + 2 - 3 * power) / 2 * self.halfedges / 3,
+            halfedges: square * halfedges,
+            edges: power * edges + (square - power) / 2 * halfedges,
+            vertices: vertices + (power - 1) * edges + (square + 2 - 3 * power) / 2 * halfedges / 3,
         }
     }
 
@@ -143,8 +144,9 @@ impl HalfedgeTable {
         requires { ⌜ (AtMost most-halfedges self) × (depth ≤ most-depth) ⌝ }
         ensures { λ r. ⌜ r ≡ roomH self depth ⌝ }
     {
+        let halfedges = self.halfedges;
         let power = 1 << depth;
-        (4 * (power * power) - 1) * self.halfedges / 3
+        (4 * (power * power) - 1) * halfedges / 3
     }
 
     // The sum of V over levels 0 to depth.
@@ -152,11 +154,14 @@ impl HalfedgeTable {
         requires { ⌜ (AtMost most-halfedges self) × (depth ≤ most-depth) ⌝ }
         ensures { λ r. ⌜ r ≡ roomV self depth ⌝ }
     {
+        let halfedges = self.halfedges;
+        let edges = self.edges;
+        let vertices = self.vertices;
         let power = 1 << depth;
         let square = power * power;
-        (depth + 1) * self.vertices
-            + (2 * power - (depth + 2)) * self.edges
-            + (2 * square + 3 * depth + 7 - 9 * power) * self.halfedges / 9
+        (depth + 1) * vertices
+            + (2 * power - (depth + 2)) * edges
+            + (2 * square + 3 * depth + 7 - 9 * power) * halfedges / 9
     }
 
     // The count question, of any numbers.

@@ -16,47 +16,47 @@ shl-power c = search needs
 mul-square : tie.Need-mul-square
 mul-square c = product-fits (omega (arith, small c .few)) (omega (arith, small c .few))
 
-mul-t5 : tie.Need-mul-t5
-mul-t5 c = let s = c .before in product-fits (omega (arith, small s .square)) (s .pre .0 .halfedges)
-
-mul-t6 : tie.Need-mul-t6
-mul-t6 c = let s = c .before .before in product-fits (omega (arith, small s .few)) (s .pre .0 .edges)
-
-sub-t7 : tie.Need-sub-t7
-sub-t7 c = let s = c .before .before in omega (arith, small s .below-square)
+mul-t8 : tie.Need-mul-t8
+mul-t8 c = product-fits (omega (arith, small c .square)) (c .pre .0 .halfedges)
 
 mul-t9 : tie.Need-mul-t9
-mul-t9 c = let s = c .before .before .before in product-fits (omega (arith, small s .square)) (s .pre .0 .halfedges)
+mul-t9 c = product-fits (omega (arith, small c .few)) (c .pre .0 .edges)
 
-add-t10 : tie.Need-add-t10
-add-t10 c = let s = c .before .before .before in two-fit (product (omega (arith, small s .few)) (s .pre .0 .edges)) (product (omega (arith, small s .square)) (s .pre .0 .halfedges))
-
-sub-t11 : tie.Need-sub-t11
-sub-t11 c = let s = c .before .before .before in small s .positive
+sub-t10 : tie.Need-sub-t10
+sub-t10 c = omega (arith, small c .below-square)
 
 mul-t12 : tie.Need-mul-t12
-mul-t12 c = let s = c .before .before .before .before in product-fits (omega (arith, small s .few)) (s .pre .0 .edges)
+mul-t12 c = product-fits (omega (arith, small c .square)) (c .pre .0 .halfedges)
 
 add-t13 : tie.Need-add-t13
-add-t13 c = let s = c .before .before .before .before .before in two-fit (omega (arith, s .pre .0 .vertices)) (product (omega (arith, small s .few)) (s .pre .0 .edges))
+add-t13 c = two-fit (product (omega (arith, small c .few)) (c .pre .0 .edges)) (product (omega (arith, small c .square)) (c .pre .0 .halfedges))
 
-add-t14 : tie.Need-add-t14
-add-t14 c = let s = c .before .before .before .before .before in omega (arith, small s .square)
+sub-t14 : tie.Need-sub-t14
+sub-t14 c = small c .positive
 
 mul-t15 : tie.Need-mul-t15
-mul-t15 c = let s = c .before .before .before .before .before in omega (arith, small s .few)
+mul-t15 c = product-fits (omega (arith, small c .few)) (c .pre .0 .edges)
 
-sub-t16 : tie.Need-sub-t16
-sub-t16 c = let s = c .before .before .before .before .before in omega (arith, small s .below-half)
+add-t16 : tie.Need-add-t16
+add-t16 c = two-fit (omega (arith, c .pre .0 .vertices)) (product (omega (arith, small c .few)) (c .pre .0 .edges))
+
+add-t17 : tie.Need-add-t17
+add-t17 c = omega (arith, small c .square)
 
 mul-t18 : tie.Need-mul-t18
-mul-t18 c = let s = c .before .before .before .before .before .before in product-fits (omega (arith, small s .square)) (s .pre .0 .halfedges)
+mul-t18 c = omega (arith, small c .few)
 
-add-t20 : tie.Need-add-t20
-add-t20 c = let s = c .before .before .before .before .before .before in three-fit (omega (arith, s .pre .0 .vertices)) (product (omega (arith, small s .few)) (s .pre .0 .edges)) (part 3 (product (omega (arith, small s .square)) (s .pre .0 .halfedges)))
+sub-t19 : tie.Need-sub-t19
+sub-t19 c = omega (arith, small c .below-half)
+
+mul-t21 : tie.Need-mul-t21
+mul-t21 c = product-fits (omega (arith, small c .square)) (c .pre .0 .halfedges)
+
+add-t23 : tie.Need-add-t23
+add-t23 c = three-fit (omega (arith, c .pre .0 .vertices)) (product (omega (arith, small c .few)) (c .pre .0 .edges)) (part 3 (product (omega (arith, small c .square)) (c .pre .0 .halfedges)))
 
 returns : tie.Need-returns
-returns c = let s = c .before .before .before .before .before .before in shifted-closed (s .args .self) (s .args .level) (s .pre .1) .level
+returns c = shifted-closed (c .args .self) (c .args .level) (c .pre .1) .level
 
 pub at-spec : {M : Type 1} → statement M
 at-spec =
@@ -64,17 +64,17 @@ at-spec =
     (tie.spec
     shl-power
     mul-square
-    mul-t5
-    mul-t6
-    sub-t7
+    mul-t8
     mul-t9
-    add-t10
-    sub-t11
+    sub-t10
     mul-t12
     add-t13
-    add-t14
+    sub-t14
     mul-t15
-    sub-t16
+    add-t16
+    add-t17
     mul-t18
-    add-t20
+    sub-t19
+    mul-t21
+    add-t23
     returns)

@@ -1,4 +1,4 @@
--- `halfedge_room` is the closed form of the sum.
+-- `halfedge_room` is the closed form of the sum, and nothing on the way to it wraps.
 use borrow.Author.Needs.{needs}
 use native.Mathlib.Omega.{arith}
 use Rattle.halfedges.proofs.Shifted.{shifted, Small, shifted-closed, shifted-small, product-fits}
@@ -23,10 +23,10 @@ sub-result : tie.Need-sub-result
 sub-result c = omega (arith, small c .below-square, small c .positive)
 
 mul-result-3 : tie.Need-mul-result-3
-mul-result-3 c = let s = c .before in product-fits (omega (arith, small s .square)) (s .pre .0 .halfedges)
+mul-result-3 c = product-fits (omega (arith, small c .square)) (c .pre .0 .halfedges)
 
 returns : tie.Need-returns
-returns c = let s = c .before in shifted-closed (s .args .self) (s .args .depth) (s .pre .1) .halfedge-room
+returns c = shifted-closed (c .args .self) (c .args .depth) (c .pre .1) .halfedge-room
 
 pub halfedge-room-spec : {M : Type 1} → statement M
 halfedge-room-spec =

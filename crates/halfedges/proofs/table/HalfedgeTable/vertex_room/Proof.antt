@@ -20,49 +20,49 @@ add-result : tie.Need-add-result
 add-result c = search needs
 
 mul-result : tie.Need-mul-result
-mul-result c = let s = c .before in product-fits (omega (arith, s .pre .1)) (s .pre .0 .vertices)
+mul-result c = product-fits (omega (arith, c .pre .1)) (c .pre .0 .vertices)
 
 mul-result-2 : tie.Need-mul-result-2
-mul-result-2 c = let s = c .before in omega (arith, small s .few)
+mul-result-2 c = omega (arith, small c .few)
 
 add-result-2 : tie.Need-add-result-2
 add-result-2 c = search needs
 
 sub-result : tie.Need-sub-result
-sub-result c = let s = c .before in omega (arith, small s .below-power)
+sub-result c = omega (arith, small c .below-power)
 
 mul-result-3 : tie.Need-mul-result-3
-mul-result-3 c = let s = c .before .before in product-fits (omega (arith, small s .few)) (s .pre .0 .edges)
+mul-result-3 c = product-fits (omega (arith, small c .few)) (c .pre .0 .edges)
 
 add-result-3 : tie.Need-add-result-3
-add-result-3 c = let s = c .before .before in two-fit (product (omega (arith, s .pre .1)) (s .pre .0 .vertices)) (product (omega (arith, small s .few)) (s .pre .0 .edges))
+add-result-3 c = two-fit (product (omega (arith, c .pre .1)) (c .pre .0 .vertices)) (product (omega (arith, small c .few)) (c .pre .0 .edges))
 
 mul-result-4 : tie.Need-mul-result-4
-mul-result-4 c = let s = c .before .before in omega (arith, small s .square)
+mul-result-4 c = omega (arith, small c .square)
 
 mul-result-5 : tie.Need-mul-result-5
 mul-result-5 c = search needs
 
 add-result-4 : tie.Need-add-result-4
-add-result-4 c = let s = c .before .before in omega (arith, small s .square, s .pre .1)
+add-result-4 c = omega (arith, small c .square, c .pre .1)
 
 add-result-5 : tie.Need-add-result-5
-add-result-5 c = let s = c .before .before in omega (arith, small s .square, s .pre .1)
+add-result-5 c = omega (arith, small c .square, c .pre .1)
 
 mul-result-6 : tie.Need-mul-result-6
-mul-result-6 c = let s = c .before .before in omega (arith, small s .few)
+mul-result-6 c = omega (arith, small c .few)
 
 sub-result-2 : tie.Need-sub-result-2
-sub-result-2 c = let s = c .before .before in omega (arith, small s .below-ninefold)
+sub-result-2 c = omega (arith, small c .below-ninefold)
 
 mul-result-7 : tie.Need-mul-result-7
-mul-result-7 c = let s = c .before .before .before in product-fits (omega (arith, small s .square, s .pre .1)) (s .pre .0 .halfedges)
+mul-result-7 c = product-fits (omega (arith, small c .square, c .pre .1)) (c .pre .0 .halfedges)
 
 add-result-6 : tie.Need-add-result-6
-add-result-6 c = let s = c .before .before .before in three-fit (product (omega (arith, s .pre .1)) (s .pre .0 .vertices)) (product (omega (arith, small s .few)) (s .pre .0 .edges)) (part 9 (product (omega (arith, small s .square, s .pre .1)) (s .pre .0 .halfedges)))
+add-result-6 c = three-fit (product (omega (arith, c .pre .1)) (c .pre .0 .vertices)) (product (omega (arith, small c .few)) (c .pre .0 .edges)) (part 9 (product (omega (arith, small c .square, c .pre .1)) (c .pre .0 .halfedges)))
 
 returns : tie.Need-returns
-returns c = let s = c .before .before .before in shifted-closed (s .args .self) (s .args .depth) (s .pre .1) .vertex-room
+returns c = shifted-closed (c .args .self) (c .args .depth) (c .pre .1) .vertex-room
 
 pub vertex-room-spec : {M : Type 1} → statement M
 vertex-room-spec =
