@@ -1,5 +1,5 @@
--- Cells in front of a list: how a loop copies them there (`copied-more`, `copied-all`, and `Copying` for what such a loop keeps),
--- where they then stand (`part-inFront`, `taken-inFront`), and that longer ones cover them (`inFront-over`). Assumes nothing.
+-- Cells in front of a list: what a loop keeps that copies them there (`Copying`), where they then stand (`part-inFront`,
+-- `taken-inFront`), and that longer ones cover them (`inFront-over`). Assumes nothing.
 use Prim.Native.Nat.{ℕ, _+_, _-_, _≤_, _<_}
 use mathlib.Core.Path.{_≡_, sym, ap, _∙_}
 use mathlib.Core.List.{List, _++_}
@@ -12,12 +12,12 @@ use Rattle.laws.specs.Internal.Parts.{part}
 use Rattle.laws.specs.Parts.{inFront}
 
 module _ {A : Type 0} (cells xs : List A) where
-  pub copied-more : (k : ℕ) (z : A) → k < length xs → k < length cells → set (paste xs 0 cells k) k (getD cells k z) ≡ paste xs 0 cells (k + 1)
+  copied-more : (k : ℕ) (z : A) → k < length xs → k < length cells → set (paste xs 0 cells k) k (getD cells k z) ≡ paste xs 0 cells (k + 1)
   copied-more k z l m =
       let e : k ≡ 0 + k = omega arith in
       ap (λ i. set (paste xs 0 cells k) i (getD cells k z)) e ∙ paste-suc xs 0 cells k z (omega arith) m ∙ ap (paste xs 0 cells) (sym (add-one k))
 
-  pub copied-all : (k : ℕ) → k ≡ length cells → paste xs 0 cells k ≡ inFront cells xs
+  copied-all : (k : ℕ) → k ≡ length cells → paste xs 0 cells k ≡ inFront cells xs
   copied-all k e = rw (e, take-length, zero-add)
 
   pub part-inFront : part (inFront cells xs) 0 (length cells) ≡ cells
