@@ -1,5 +1,6 @@
 -- Demand 3 of the tables: `invariant`, by induction on the depth, wherever no halfedge number reaches the marker; and
--- `accepted`, of every cage that the check accepts, at every depth that is allowed. Assumes nothing.
+-- `accepted`, of every cage that the check accepts, at every depth that is allowed; a vertex on a border stays on one,
+-- `stays-on-border`. Assumes nothing.
 use Prim.Native.Nat.{ℕ, zero, suc, _+_, _*_, _^_, _≤_, _<_}
 use mathlib.Core.Path.{_≡_, refl, sym, ap, ap₂, subst, _∙_}
 use native.Mathlib.Decide.{decLt}
@@ -17,7 +18,7 @@ use Rattle.tables.specs.Ruled.{Shaped, Ruled}
 use Rattle.splitting.specs.NextLevel.{next, level}
 use Rattle.tables.specs.Check.{tableChecks}
 use Rattle.tables.proofs.Accepted.{rules-done, whole-meaning}
-use Rattle.invariance.specs.Invariance.{verticesIn, Added, Invariant}
+use Rattle.invariance.specs.Invariance.{verticesIn, OnBorder, Added, Invariant}
 use Rattle.invariance.proofs.Refinable.{H}
 use Rattle.invariance.proofs.VertexCount.{vertices-counted}
 use Rattle.invariance.proofs.NextLevel.{Step, step}
@@ -104,6 +105,15 @@ module _ (c : Tables) (v : ℕ) (s : Shaped c) (r : Ruled c v) where
       let more = power-more 4 d (H c) in
       let p = invariant d (omega arith) in
       deeper (countsOf c v) c d p (omega (arith, p .halfedges))
+
+  -- what lies on a border stays there
+  pub stays-on-border : (d : ℕ) → 4 ^ d * H c ≤ marker → (u : ℕ) → OnBorder c u → OnBorder (level (countsOf c v) c d) u
+  unfolding level
+  stays-on-border zero b u on = on
+  stays-on-border (suc d) b u on =
+      let more = power-more 4 d (H c) in
+      let p = invariant d (omega arith) in
+      last (countsOf c v) c d p (omega (arith, p .halfedges)) .still-on-border u (stays-on-border d (omega arith) u on)
 
 -- ---- accepted cages
 

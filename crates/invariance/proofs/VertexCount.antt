@@ -3,10 +3,11 @@
 --     corners-at-most               a vertex has at most F corners, one in a triangle
 --     as-many-borders               as many border halfedges end at a vertex as leave it
 --     one-border-leaves             at most one leaves it
+--     two-inside                    a vertex inside has two corners at least
 -- Assumes nothing.
 use Prim.Native.Nat.{ℕ, _+_, _*_, _≤_, _<_}
 use mathlib.Core.Path.{_≡_, refl, sym, ap, _∙_}
-use mathlib.Core.Logic.{_≢_}
+use mathlib.Core.Logic.{_≢_, inr}
 use mathlib.Core.Bool.{Bool, true, false, cond, not, _&&_, true≢false}
 use mathlib.Core.List.{List}
 use native.Mathlib.Decide.{ℕ-discrete, decLt}
@@ -19,14 +20,14 @@ use Rattle.laws.proofs.Tests.{true-any, false-any}
 use Rattle.laws.proofs.Least.{least}
 use Rattle.laws.proofs.Sums.{sum-at-most, sum-same, sum-add, sum-ones, sum-triples}
 use Rattle.laws.proofs.Turnings.{sum-turned}
-use Rattle.laws.proofs.Pigeonhole.{some-counted, count-at-most-one, sum-of-counts, and-both}
-use Rattle.halfedges.specs.Cage.{NEXT, F, marker, cell, border}
+use Rattle.laws.proofs.Pigeonhole.{some-counted, two-counted, count-at-most-one, sum-of-counts, and-both}
+use Rattle.halfedges.specs.Cage.{NEXT, PREV, F, marker, cell, border}
 use Rattle.tables.specs.Tables.{Tables, leaves}
 use Rattle.tables.specs.Ruled.{Shaped, Ruled}
-use Rattle.halfedges.proofs.Triangle.{next-0, next-1, next-2, round}
+use Rattle.halfedges.proofs.Triangle.{next-0, next-1, next-2, next-prev, next-next, next-below, prev-below, round}
 use Rattle.tables.proofs.Joined.{one-border}
 use Rattle.tables.proofs.EdgeCount.{twin-has-twin, partner, partner-border, partner-inner, pairing}
-use Rattle.invariance.specs.Invariance.{verticesIn, cornersAt}
+use Rattle.invariance.specs.Invariance.{verticesIn, cornersAt, OnBorder}
 use Rattle.invariance.proofs.Refinable.{H, TWIN, VERT}
 
 -- no lower halfedge leaves h's vertex
@@ -136,3 +137,25 @@ module _ {c : Tables} {v : ℕ} (s : Shaped c) (r : Ruled c v) where
         let y = and-both (border (c .twin) h) (leaves (c .vert) u h) b in
         one-border (c .twin) (s .whole) (r .paired) small g h (rw (s .vert-long) at lg) (rw (s .vert-long) at lh) (eqb-true _ _ (x .0)) (eqb-true _ _ (y .0))
         (r .fanned .one g h lg lh (eqb-true _ _ (x .1) ∙ sym (eqb-true _ _ (y .1)))))
+
+    -- h leaves u. PREV(h) ends there and so has a twin, which leaves u too and is not h: then both would run between the same two
+    -- vertices, and the third corner would be one of them
+    pub two-inside : u < v → ¬ OnBorder c u → 2 ≤ cornersAt c u
+    unfolding cornersAt
+    two-inside l inside = by (r .used .corner u l)
+      where
+        by : (h : ℕ) × (h < length (c .vert)) × (VERT c h ≡ u) → 2 ≤ count (H c) (leaves (c .vert) u)
+        by (h, lv, q) =
+            let lh : h < H c = omega (arith, lv, s .vert-long) in
+            let lp = prev-below (s .whole) lh in
+            let ends : VERT c (NEXT (PREV h)) ≡ u = ap (VERT c) (next-prev h) ∙ q in
+            let twinned : TWIN c (PREV h) ≢ marker = λ m. inside (PREV h, lp, m, inr ends) in
+            two-counted (H c) (leaves (c .vert) u) (TWIN c (PREV h)) h (r .paired .below (PREV h) lp twinned) lh
+            (λ e. third h lh (sym (ap (TWIN c) e) ∙ r .paired .back (PREV h) lp twinned))
+            (eq-eqb _ _ (r .placed .twin-ends (PREV h) lp twinned ∙ ends)) (eq-eqb _ _ q)
+          where
+            third : (h : ℕ) → h < H c → TWIN c h ≡ PREV h → ⊥
+            third h lh e =
+                let twinned : TWIN c h ≢ marker = λ m. omega (arith, prev-below (s .whole) lh, m, e) in
+                r .placed .ends (NEXT h) (next-below (s .whole) lh)
+                (sym (r .placed .twin-ends h lh twinned) ∙ ap (VERT c) (e ∙ sym (next-next h)))

@@ -1,5 +1,6 @@
 -- Counting what has different values. Assumes nothing.
 --     counted, some-counted         a count is not 0 where one passes, and only there
+--     two-counted                   and 2 where two pass
 --     and-both                      both parts of a conjunction that holds
 --     count-at-most-one             at most one, where no two pass
 --     sum-of-counts                 what passes, counted by its value
@@ -8,14 +9,15 @@
 use Prim.Native.Nat.{ℕ, zero, suc, _+_, _≤_, _<_}
 use mathlib.Core.Path.{_≡_, refl, sym, ap, _∙_}
 use mathlib.Core.Logic.{_≢_}
-use mathlib.Core.Bool.{Bool, true, false, cond, _&&_, true≢false}
+use mathlib.Core.Bool.{Bool, true, false, cond, not, _&&_, true≢false}
 use native.Mathlib.Decide.{ℕ-discrete, decLt}
 use native.Mathlib.Nat.{not-suc-le-zero}
 use native.Mathlib.Omega.{arith}
 use lib.Dec.{eqb}
-use borrow.Author.Tests.{eqb-true}
+use borrow.Author.Tests.{eq-eqb, ne-eqb, eqb-true}
 use Rattle.laws.specs.Below.{sum, count}
 use Rattle.laws.proofs.Tests.{by-test}
+use Rattle.laws.proofs.Counts.{count-one, count-split}
 use Rattle.laws.proofs.Sums.{sum-at-most, sum-same, sum-ones, sum-none, sum-swap, sum-at}
 
 pub counted : (n : ℕ) (p : ℕ → Bool) → 0 < count n p → (k : ℕ) × (k < n) × (p k ≡ true)
@@ -32,6 +34,20 @@ some-counted (suc n) p k l e = by (ℕ-discrete k n) (λ b. some-counted n p k b
     by : Dec (k ≡ n) → (k < n → 0 < count n p) → 0 < count (suc n) p
     by (yes q) ih = rw (ap p (sym q) ∙ e) (omega arith)
     by (no q) ih = omega (arith, ih (omega (arith, q)))
+
+-- two numbers that pass are counted as two
+pub two-counted : (n : ℕ) (p : ℕ → Bool) (g h : ℕ) → g < n → h < n → g ≢ h → p g ≡ true → p h ≡ true → 2 ≤ count n p
+two-counted n p g h lg lh differ pg ph =
+    omega (
+      arith,
+      count-split n p (λ k. eqb k h) (λ k. p k && not (eqb k h)) (λ k l. parts k (ℕ-discrete k h)),
+      count-one n h lh,
+      some-counted n (λ k. p k && not (eqb k h)) g lg (rw (pg, ne-eqb g h differ)),
+    )
+  where
+    parts : (k : ℕ) → Dec (k ≡ h) → cond (p k) 1 0 ≡ cond (eqb k h) 1 0 + cond (p k && not (eqb k h)) 1 0
+    parts k (yes e) = rw (e, ph, eq-eqb h h refl)
+    parts k (no e) = rw (ne-eqb k h e) (by-test (p k) (λ q. rw q) (λ q. rw q))
 
 pub count-at-most-one : (n : ℕ) (p : ℕ → Bool) → ((i j : ℕ) → i < n → j < n → p i ≡ true → p j ≡ true → i ≡ j) → count n p ≤ 1
 count-at-most-one zero p u = omega arith
