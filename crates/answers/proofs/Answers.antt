@@ -19,7 +19,7 @@ use Rattle.halfedges.specs.declared.table.Levels.{Levels}
 use Rattle.halfedges.specs.declared.table.Counted.{Counted}
 use Rattle.halfedges.specs.declared.corners.Corners.{Corners}
 use Rattle.halfedges.specs.Cage.{most-halfedges, most-vertices, most-depth, border, above, E, B}
-use Rattle.halfedges.specs.Refusals.{Verdict, DONE, SHAPE, LIMIT, TWIN, VERTEX, UNUSED, EDGE, FAN, POINT, ROOM, SHORT, FIELD, EXTRA, DOUBLED, told, short, whenDone, first, Said, said}
+use Rattle.halfedges.specs.Refusals.{Verdict, DONE, SHAPE, LIMIT, TWIN, VERTEX, UNUSED, EDGE, FAN, POINT, VALENCE, ROOM, SHORT, FIELD, EXTRA, DOUBLED, told, givenAt, short, whenDone, first, Said, said}
 use Rattle.halfedges.specs.Internal.Counts.{AtMost}
 use Rattle.halfedges.specs.Counts.{countsAt, Hs, Es, Vs, seven, levels, noLevels, countShape, aboveLimit, countQuestion, counted}
 use Rattle.halfedges.specs.Corners.{cornerShape, cornerQuestion, cornered}
@@ -29,7 +29,10 @@ use Rattle.halfedges.proofs.Questions.{limits-kept, count-shape, count-limit, c
 use Rattle.tables.specs.Tables.{Tables, countsOf}
 use Rattle.tables.specs.Check.{rules, returned}
 use Rattle.levels.specs.Refining.{shortTables}
-use Rattle.points.specs.Operations.{vertices, cageChecks, checkCage, refineVerdict, refineCage}
+use Rattle.points.specs.declared.weights.Weight.{Weight}
+use Rattle.points.specs.declared.weights.Weight.the-variants.{Short, Paper}
+use Rattle.points.specs.Operations.{vertices, manyCorners, valenceChecks, cageChecks, refineChecks, checkCage, refineVerdict, refineCage}
+use Rattle.cage.proofs.CageChecks.{short-checks}
 use Rattle.triangles.specs.Plain.{twinTable}
 use Rattle.triangles.proofs.Opposite.{twins-long}
 use Rattle.building.specs.Building.{buildChecks, buildVerdict, buildCage}
@@ -53,33 +56,37 @@ short-small : (table needed lent : ℕ) → table < 6 → Small (short table nee
 unfolding short
 short-small table needed lent l = given-small (ltb lent needed) (ROOM table) (omega arith, omega arith)
 
--- the first of 1 to 8
-cage-small : (c : Tables) (points : List ℤ) (depth : ℕ) → Small (first (cageChecks c points depth))
-unfolding cageChecks rules
-cage-small c points depth =
+-- 14, where there are no more vertices than a cage has
+valence-small : (w : Weight) (twin vert : List ℕ) (v : ℕ) → v ≤ most-vertices → Small (first (valenceChecks w twin vert v))
+unfolding first
+valence-small Short twin vert v l = (omega arith, omega arith)
+valence-small Paper twin vert v l =
+    first-small (givenAt v (manyCorners twin vert) VALENCE ∷ []) (givenAt-small v (manyCorners twin vert) VALENCE (λ u m. (omega arith, omega arith)), tt)
+
+-- the first of 1 to 8, and 14 by the weight
+checks-small : (w : Weight) (c : Tables) (points : List ℤ) (depth : ℕ) → Small (first (refineChecks w c points depth))
+unfolding refineChecks rules
+checks-small w c points depth =
     guarded-small _ SHAPE _ refl (omega arith, omega arith)
     (λ _. guarded-small _ LIMIT _ refl (omega arith, omega arith)
     (λ l.
     let k = limits-kept (length (c .twin)) (vertices points) depth l in
-    first-small _ (
+    joined-small (rules c (vertices points)) _
+    (first-small _ (
       givenAt-small _ _ TWIN (λ h m. (omega arith, omega arith)),
       (
         givenAt-small _ _ VERTEX (λ h m. (omega arith, omega arith)),
         (
           givenAt-small _ _ UNUSED (λ v m. (omega arith, omega arith)),
-          (
-            givenAt-small _ _ EDGE (λ h m. (omega arith, omega arith)),
-            (
-              givenAt-small _ _ FAN (λ v m. (omega arith, omega arith)),
-              (
-                givenAt-small _ _ POINT (λ i m. (omega arith, omega arith)),
-                tt,
-              ),
-            ),
-          ),
+          (givenAt-small _ _ EDGE (λ h m. (omega arith, omega arith)), (givenAt-small _ _ FAN (λ v m. (omega arith, omega arith)), tt)),
         ),
       ),
-    )))
+    ))
+    (λ _. joined-small (valenceChecks w (c .twin) (c .vert) (vertices points)) _ (valence-small w (c .twin) (c .vert) (vertices points) (k .1))
+    (λ _. first-small _ (givenAt-small _ _ POINT (λ i m. (omega arith, omega arith)), tt)))))
+
+cage-small : (c : Tables) (points : List ℤ) (depth : ℕ) → Small (first (cageChecks c points depth))
+cage-small c points depth = rw (short-checks c points depth) at (checks-small Short c points depth)
 
 -- H, E, F, V and B within the limits, and zeros
 returned-fit : (twin : List ℕ) (v : ℕ) → length twin ≤ most-halfedges → v ≤ most-vertices → Fitting (returned twin v)
@@ -224,16 +231,16 @@ rooms-small : (needed coordinates : ℕ) (x : Tables) (xp : List ℤ) → Small 
 unfolding shortTables
 rooms-small needed coordinates x xp = first-small _ (short-small 1 _ _ (omega arith), (short-small 2 _ _ (omega arith), (short-small 3 _ _ (omega arith), (short-small 4 _ _ (omega arith), tt))))
 
-module _ (c : Tables) (points : List ℤ) (depth : ℕ) (x : Tables) (xp : List ℤ) where
-  refine-small : Small (refineVerdict c points depth x xp)
+module _ (w : Weight) (c : Tables) (points : List ℤ) (depth : ℕ) (x : Tables) (xp : List ℤ) where
+  refine-small : Small (refineVerdict w c points depth x xp)
   unfolding refineVerdict
-  refine-small = joined-small (cageChecks c points depth) _ (cage-small c points depth) (λ _. rooms-small _ _ x xp)
+  refine-small = joined-small (refineChecks w c points depth) _ (checks-small w c points depth) (λ _. rooms-small _ _ x xp)
 
-  pub refine-fits : LevelsFit (refineCage c points depth x xp .answer)
+  pub refine-fits : LevelsFit (refineCage w c points depth x xp .answer)
   unfolding refineCage said
   refine-fits =
-      levels-fit (refineCage c points depth x xp .answer) refine-small
-      (laid-when (refineVerdict c points depth x xp) _ noLevels (laid-count (countsOf c (vertices points)) depth) laid-none)
+      levels-fit (refineCage w c points depth x xp .answer) refine-small
+      (laid-when (refineVerdict w c points depth x xp) _ noLevels (laid-count (countsOf c (vertices points)) depth) laid-none)
 
 -- SHAPE or done, and three corners
 pub record CornersFit (s : Said (List ℕ)) : Type 0 where

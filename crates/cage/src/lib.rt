@@ -1,4 +1,4 @@
-// The cage check: any four tables, refusals 1 to 8.
+// The cage check: any four tables, refusals 1 to 8; for refining, 14 too.
 ghost use mathlib.Core.Path.{_≡_};
 ghost use lib.Dec.{ltb};
 ghost use lib.IntN.{natAbs};
@@ -7,31 +7,41 @@ ghost use Rattle.laws.specs.Below.{any};
 ghost use Rattle.halfedges.specs.Refusals.{POINT, told, givenAt, first};
 ghost use Rattle.tables.specs.Tables.{tables};
 ghost use Rattle.tables.specs.Check.{checked};
-ghost use Rattle.points.specs.Operations.{unshaped as Operations·unshaped, most-coordinate, outOfRange, cageChecks, checkCage};
+ghost use Rattle.points.specs.Operations.{unshaped as Operations·unshaped, most-coordinate, outOfRange, cageChecks, refineChecks, checkCage};
 use halfedges::answer::Answer;
 use points::rules::LEAST_COORDINATE;
 use points::rules::MOST_COORDINATE;
+use points::weights::Weight;
 use tables::check;
 use tables::check::Checked;
+use valences::check_valences;
 
 // The cage check, which has no depth.
 pub fn check_cage(twin: &[u32], vert: &[u32], edge: &[u32], points: &[i32]) -> Checked
     ensures { λ r. ⌜ checked r ≡ checkCage (tables (now (twin .entry)) (now (vert .entry)) (now (edge .entry))) (now (points .entry)) ⌝ }
 {
-    let answer = check_for_depth(twin, vert, edge, points, 0);
+    let answer = verdict(twin, vert, edge, points);
     check::answered(answer, twin, points.len() / 3)
 }
 
-// Checks 1 to 8 of any tables, where the depth's limit counts too.
-pub fn check_for_depth(
+// Checks 1 to 8 of any tables. No weight is chosen here, so none for which 14 would be given.
+pub fn verdict(twin: &[u32], vert: &[u32], edge: &[u32], points: &[i32]) -> Answer
+    ensures { λ r. ⌜ told r ≡ first (cageChecks (tables (now (twin .entry)) (now (vert .entry)) (now (edge .entry))) (now (points .entry)) 0) ⌝ }
+{
+    check_for_refining(twin, vert, edge, points, 0, Weight::Short)
+}
+
+// Checks 1 to 8 of any tables, where the depth's limit counts too, and 14 by the weight chosen.
+pub fn check_for_refining(
     twin: &[u32],
     vert: &[u32],
     edge: &[u32],
     points: &[i32],
     depth: usize,
+    weight: Weight,
 ) -> Answer
     ensures { λ r.
-        ⌜ told r ≡ first (cageChecks (tables (now (twin .entry)) (now (vert .entry)) (now (edge .entry)))
+        ⌜ told r ≡ first (refineChecks weight (tables (now (twin .entry)) (now (vert .entry)) (now (edge .entry)))
         (now (points .entry)) depth) ⌝ }
 {
     if points.len() % 3 != 0 {
@@ -40,6 +50,10 @@ pub fn check_for_depth(
     let answer = check::check_for_depth(twin, vert, edge, points.len() / 3, depth);
     if answer.number() != 0 {
         return answer;
+    }
+    let valence = check_valences(weight, twin, vert, points.len() / 3);
+    if valence.number() != 0 {
+        return valence;
     }
     check_points(points)
 }

@@ -1,4 +1,5 @@
--- Document 01, "Cages to try": P1 to P10, one table and one statement (`as-document-01-says`), computed from the definitions.
+-- Document 01, "Cages to try": P1 to P10, one table and one statement (`as-document-01-says`), computed from the definitions;
+-- P6 with the paper's weight, `by-the-paper`.
 use Prim.Native.Nat.{ℕ}
 use mathlib.Core.Path.{_≡_, refl}
 use mathlib.Core.List.{List, [], _∷_, _++_, map}
@@ -15,9 +16,11 @@ use Rattle.splitting.specs.NextLevel.{rows, newTwin, newEdge, newVert, nextTwin
 use Rattle.tables.specs.Check.{rules, returned}
 use Rattle.levels.specs.Refining.{shortTables, filledTables, levelsEndToEnd}
 use Rattle.rounding.specs.Rounding.{round}
+use Rattle.points.specs.declared.weights.Weight.{Weight}
+use Rattle.points.specs.declared.weights.Weight.the-variants.{Short, Paper}
 use Rattle.points.specs.PointRules.{E1, E2, V2, V3}
 use Rattle.points.specs.NextPoints.{corners, spokeEnds, creaseEnds, vertexPoint, edgePoint, newPoint, nextPoints, levelPoints}
-use Rattle.points.specs.Operations.{outOfRange, cageChecks, checkCage, refineVerdict, Refined, refineCage}
+use Rattle.points.specs.Operations.{outOfRange, onBorder, manyCorners, cageChecks, refineChecks, checkCage, refineVerdict, Refined, refineCage}
 
 -- ---- the cages
 
@@ -45,14 +48,21 @@ corner n = map pos (0 ∷ 0 ∷ 0 ∷ n ∷ 0 ∷ 0 ∷ 0 ∷ n ∷ 0 ∷ [])
 -- ---- the questions
 
 -- a cage of H halfedges and V vertices refined to depth 1, in lent tables of h and v cells that hold sevens
-abbrev refined : Tables → List ℤ → ℕ → ℕ → Refined
-refined c points h v = refineCage c points 1 (tables (replicate h 7) (replicate h 7) (replicate h 7)) (replicate v (pos 7))
+abbrev refined : Weight → Tables → List ℤ → ℕ → ℕ → Refined
+refined w c points h v = refineCage w c points 1 (tables (replicate h 7) (replicate h 7) (replicate h 7)) (replicate v (pos 7))
 
 abbrev triangleRefined : Refined
-triangleRefined = refined triangle (corner 800) 15 27
+triangleRefined = refined Short triangle (corner 800) 15 27
+
+abbrev pillowBy : Weight → Refined
+pillowBy w = refined w pillow (corner 16) 30 27
 
 abbrev pillowRefined : Refined
-pillowRefined = refined pillow (corner 16) 30 27
+pillowRefined = pillowBy Short
+
+-- vertex 0 and edge 0's point of the pillow's level 1
+abbrev vertexAndEdge : Refined → List ℤ
+vertexAndEdge r = take 3 (drop 9 (r .points)) ++ take 3 (drop 18 (r .points))
 
 -- number and place of an answer
 abbrev numbersOf : {A : Type 0} → Said A → List ℤ
@@ -85,7 +95,7 @@ cases =
     ++ map pos (cell (drop 6 (pillowRefined .lent .twin)) 0 ∷ map (cell (drop 6 (pillowRefined .lent .edge))) (0 ∷ 11 ∷ 15 ∷ [])))
     (map pos (0 ∷ 0 ∷ 11 ∷ 1 ∷ 1 ∷ 0 ∷ []))
     -- P6: vertex 0 and edge 0's point
-    ∷ P (take 3 (drop 9 (pillowRefined .points)) ++ take 3 (drop 18 (pillowRefined .points))) (map pos (3 ∷ 3 ∷ 0 ∷ 6 ∷ 4 ∷ 0 ∷ []))
+    ∷ P (vertexAndEdge pillowRefined) (map pos (3 ∷ 3 ∷ 0 ∷ 6 ∷ 4 ∷ 0 ∷ []))
     -- P7: refusal 7 at 0
     ∷ P (numbersOf (checkCage twoTriangles (replicate 15 (pos 0)))) (map pos (7 ∷ 0 ∷ []))
     -- P8: the room for H 12, E 6, V 4, depth 2
@@ -102,5 +112,13 @@ pub as-document-01-says : map (λ c. c .gives) cases ≡ map (λ c. c .says) cas
 unfolding NEXT PREV above E B given givenAt short first said filled countsAt seven levels countShape aboveLimit countQuestion
     misshapen badTwin badVertex unused stranger badEdge met joined notOneFan rows newTwin newEdge newVert nextTwins nextEdges
     nextVerts level rules returned shortTables filledTables levelsEndToEnd round E1 E2 V2 V3 corners spokeEnds creaseEnds
-    vertexPoint edgePoint newPoint nextPoints levelPoints outOfRange cageChecks checkCage refineVerdict refineCage
+    vertexPoint edgePoint newPoint nextPoints levelPoints outOfRange cageChecks refineChecks checkCage refineVerdict refineCage
 as-document-01-says = refl
+
+-- P6 with the paper's weight, as document 02 has it: vertex 0 goes to (5,5,0) and the edge's point stays
+pub by-the-paper : vertexAndEdge (pillowBy Paper) ≡ map pos (5 ∷ 5 ∷ 0 ∷ 6 ∷ 4 ∷ 0 ∷ [])
+unfolding NEXT PREV above E B given givenAt short first said filled countsAt seven levels countShape aboveLimit countQuestion
+    misshapen badTwin badVertex unused stranger badEdge met joined notOneFan rows newTwin newEdge newVert nextTwins nextEdges
+    nextVerts level rules returned shortTables filledTables levelsEndToEnd round E1 E2 V2 V3 corners spokeEnds creaseEnds
+    vertexPoint edgePoint newPoint nextPoints levelPoints outOfRange onBorder manyCorners cageChecks refineChecks checkCage refineVerdict refineCage
+by-the-paper = refl

@@ -18,6 +18,7 @@ pub enum Answer {
     Field(usize),
     Extra(usize),
     Doubled(usize),
+    Valence(usize),
 }
 
 impl Answer {
@@ -39,6 +40,7 @@ impl Answer {
             Answer::Field(_) => 11,
             Answer::Extra(_) => 12,
             Answer::Doubled(_) => 13,
+            Answer::Valence(_) => 14,
         }
     }
 
@@ -60,6 +62,7 @@ impl Answer {
             Answer::Field(offset) => offset,
             Answer::Extra(offset) => offset,
             Answer::Doubled(halfedge) => halfedge,
+            Answer::Valence(vertex) => vertex,
         }
     }
 }

@@ -15,13 +15,12 @@ use Rattle.halfedges.specs.Cage.{most-halfedges, most-depth, border, above, E, 
 use Rattle.halfedges.specs.Refusals.{DONE, told, first}
 use Rattle.halfedges.specs.Internal.Counts.{AtMost}
 use Rattle.halfedges.specs.Counts.{levels}
-use Rattle.halfedges.proofs.Checks.{done-both}
 use Rattle.tables.specs.declared.check.Checked.{Checked}
 use Rattle.tables.specs.Tables.{countsOf}
 use Rattle.tables.specs.Check.{returned, checked, tableChecks}
 use Rattle.points.specs.Operations.{vertices}
 use Rattle.invariance.proofs.Levels.{accepted}
-use Rattle.cage.proofs.CageChecks.{checks-then}
+use Rattle.cage.proofs.CageChecks.{tables-accepted}
 use Rattle.reading.specs.Reading.{twinsIn, pointsIn}
 use Rattle.cagefile.proofs.Fits.{Fits}
 use Rattle.writing.proofs.Accepted.{accepted-fits}
@@ -72,7 +71,7 @@ module _ (f : List ℕ) (r : Checked) (e : checked r ≡ checkFile f) where
     few-borders = omega (arith, bordered, fits .few-halfedges, count-at-most (length (twinsIn f)) (border (twinsIn f)))
 
     tables-done : first (tableChecks (cageIn f) (vertices (pointsIn f)) 0) ≡ DONE
-    tables-done = done-both (tableChecks (cageIn f) (vertices (pointsIn f)) 0) _ (rw (checks-then (cageIn f) (pointsIn f) 0 (fits .shaped .threes)) at (accepted-done f r e z)) .0
+    tables-done = tables-accepted (cageIn f) (pointsIn f) 0 (fits .shaped .threes) (accepted-done f r e z)
 
     -- demand 3: border edges double
     doubled-borders : (k : ℕ) → k ≤ most-depth → doubled (r .borders) k ≡ levelBorders (countsOf (cageIn f) (vertices (pointsIn f))) (cageIn f) k

@@ -25,6 +25,7 @@ use Rattle.tables.specs.Tables.{Tables}
 use Rattle.splitting.specs.NextLevel.{newVert, nextVerts, level}
 use Rattle.levels.specs.Refining.{levelsEndToEnd}
 use Rattle.splitting.proofs.Rows.{at-across, at-back, at-middle}
+use Rattle.points.specs.declared.weights.Weight.{Weight}
 use Rattle.points.specs.NextPoints.{levelPoints}
 use Rattle.points.specs.Internal.Relied.{Fourfold}
 use Rattle.passes.specs.declared.level.Level.{Level}
@@ -65,25 +66,25 @@ beforeAt t zero = 0
 beforeAt t (suc d) = Hs t d
 
 -- the loop stands at level d: which level that is, and the table so far
-pub record Stands (t : HalfedgeTable) (depth : ℕ) (lent : Tables) (points : List ℤ) (d : ℕ) (x : Level) (q : List ℤ) : Type 0 where
+pub record Stands (w : Weight) (t : HalfedgeTable) (depth : ℕ) (lent : Tables) (points : List ℤ) (d : ℕ) (x : Level) (q : List ℤ) : Type 0 where
   pub is-left : d + x .left ≡ depth
   pub is-before : x .before ≡ beforeAt t d
   pub is-counts : x .counts ≡ countsAt t d
   pub is-start : x .start ≡ sum d (Hs t)
   pub is-at : x .at ≡ 3 * sum d (Vs t)
-  pub is-table : q ≡ withLevels t d lent points
+  pub is-table : q ≡ withLevels w t d lent points
 
-module _ (t : HalfedgeTable) (depth : ℕ) (lent : Tables) (points : List ℤ) (ready : ReadyLevels t depth lent points) where
+module _ (w : Weight) (t : HalfedgeTable) (depth : ℕ) (lent : Tables) (points : List ℤ) (ready : ReadyLevels t depth lent points) where
   abbrev c : Tables
   c = cageOf t lent
 
   -- the points of level d
   abbrev P : ℕ → List ℤ
-  P = levelPoints t c (take (3 * t .vertices) points)
+  P = levelPoints w t c (take (3 * t .vertices) points)
 
   -- the table with levels 0 to d
   abbrev Q : ℕ → List ℤ
-  Q d = withLevels t d lent points
+  Q d = withLevels w t d lent points
 
   -- room for the first n levels
   room-for : (n : ℕ) → n ≤ suc depth → 3 * sum n (Vs t) ≤ length points
@@ -94,19 +95,19 @@ module _ (t : HalfedgeTable) (depth : ℕ) (lent : Tables) (points : List ℤ) (
   cage-long = length-take-le (3 * t .vertices) points (omega (arith, room-for 1 (omega arith)))
 
   level-long : (d : ℕ) → length (P d) ≡ 3 * Vs t d
-  level-long = level-points-long t c (take (3 * t .vertices) points) cage-long
+  level-long = level-points-long w t c (take (3 * t .vertices) points) cage-long
 
   -- where level n's points start
-  levels-long : (n : ℕ) → length (pointLevels t lent points n) ≡ 3 * sum n (Vs t)
+  levels-long : (n : ℕ) → length (pointLevels w t lent points n) ≡ 3 * sum n (Vs t)
   levels-long n = length-multiples 3 P (Vs t) n (λ i _. level-long i)
 
   table-long : (d : ℕ) → d ≤ depth → length (Q d) ≡ length points
   unfolding withLevels
   table-long d l =
-      length-append (pointLevels t lent points (suc d)) (drop (length (pointLevels t lent points (suc d))) points)
-      ∙ omega (arith, length-drop (length (pointLevels t lent points (suc d))) points, levels-long (suc d), room-for (suc d) (omega arith))
+      length-append (pointLevels w t lent points (suc d)) (drop (length (pointLevels w t lent points (suc d))) points)
+      ∙ omega (arith, length-drop (length (pointLevels w t lent points (suc d))) points, levels-long (suc d), room-for (suc d) (omega arith))
 
-  pub climb-start : {x : Level} {d : ℕ} → x ≡ cageLevel t depth → d ≡ 0 → Stands t depth lent points d x points
+  pub climb-start : {x : Level} {d : ℕ} → x ≡ cageLevel t depth → d ≡ 0 → Stands w t depth lent points d x points
   unfolding withLevels levelPoints countsAt
   climb-start e z =
       rw (e, z)
@@ -114,34 +115,34 @@ module _ (t : HalfedgeTable) (depth : ℕ) (lent : Tables) (points : List ℤ) (
 
   module _ (d : ℕ) where
     abbrev rest : List ℤ
-    rest = drop (length (pointLevels t lent points (suc d))) points
+    rest = drop (length (pointLevels w t lent points (suc d))) points
 
     -- level d stands where the code looks for it
     points-are : pointsAt (countsAt t d) (3 * sum d (Vs t)) (Q d) ≡ P d
     unfolding withLevels
     points-are =
-        ap (take (3 * Vs t d)) (ap (drop (3 * sum d (Vs t))) (append-assoc (pointLevels t lent points d) (P d) rest) ∙ drop-at (pointLevels t lent points d) (P d ++ rest) (3 * sum d (Vs t)) (levels-long d))
+        ap (take (3 * Vs t d)) (ap (drop (3 * sum d (Vs t))) (append-assoc (pointLevels w t lent points d) (P d) rest) ∙ drop-at (pointLevels w t lent points d) (P d ++ rest) (3 * sum d (Vs t)) (levels-long d))
         ∙ take-at (P d) rest (3 * Vs t d) (level-long d)
 
-    levels-end : length (pointLevels t lent points (suc d)) ≡ 3 * sum d (Vs t) + 3 * Vs t d
+    levels-end : length (pointLevels w t lent points (suc d)) ≡ 3 * sum d (Vs t) + 3 * Vs t d
     levels-end = levels-long (suc d) ∙ omega arith
 
-    past-next : drop (nextEnd (countsAt t d) (3 * sum d (Vs t))) (Q d) ≡ drop (length (pointLevels t lent points (suc (suc d)))) points
+    past-next : drop (nextEnd (countsAt t d) (3 * sum d (Vs t))) (Q d) ≡ drop (length (pointLevels w t lent points (suc (suc d)))) points
     unfolding countsAt withLevels
     past-next =
-        let E = pointLevels t lent points (suc d) in
+        let E = pointLevels w t lent points (suc d) in
         let more = 3 * (countsAt t d .vertices + countsAt t d .edges) in
         ap (λ k. drop (k + more) (Q d)) (sym levels-end)
         ∙ drop-append-add E rest more
         ∙ drop-drop more (length E) points
         ∙ ap (λ k. drop k points) (ap (λ k. length E + k) (sym (level-long (suc d))) ∙ sym (length-append E (P (suc d))))
 
-    next-level : withNext (countsAt t d) (level t c d) (3 * sum d (Vs t)) (Q d) ≡ withLevels t (suc d) lent points
+    next-level : withNext w (countsAt t d) (level t c d) (3 * sum d (Vs t)) (Q d) ≡ withLevels w t (suc d) lent points
     unfolding withNext withLevels levelPoints
     next-level =
-        let E = pointLevels t lent points (suc d) in
+        let E = pointLevels w t lent points (suc d) in
         rw (take-at E rest (3 * sum d (Vs t) + 3 * Vs t d) levels-end, points-are, past-next)
-        (sym (append-assoc E (P (suc d)) (drop (length (pointLevels t lent points (suc (suc d)))) points)))
+        (sym (append-assoc E (P (suc d)) (drop (length (pointLevels w t lent points (suc (suc d)))) points)))
 
   -- a table that holds one list of H cells for each level, end to end
   module _ (f : ℕ → List ℕ) (table : List ℕ) (starts : take (length (endToEnd (suc depth) f)) table ≡ endToEnd (suc depth) f) (long : (i : ℕ) → i < depth → length (f i) ≡ Hs t i) (d : ℕ) (l : d < depth) where
@@ -206,12 +207,12 @@ module _ (t : HalfedgeTable) (depth : ℕ) (lent : Tables) (points : List ℤ) (
           known = ready .known d l;
           fourfold = level-fourfold d l;
           short = omega (arith, small);
-          in-range = rw (points-are d) (levels-in-range t c (take (3 * t .vertices) points) depth (ready .relied) (ready .in-range) d (omega arith));
+          in-range = rw (points-are d) (levels-in-range w t c (take (3 * t .vertices) points) depth (ready .relied) (ready .in-range) d (omega arith));
           room = rw (table-long d (omega arith)) (omega (arith, room-for (suc (suc d)) (omega arith)));
         }
 
   -- the loop's turn at level d
-  module _ {d : ℕ} {x : Level} {q : List ℤ} (stands : Stands t depth lent points d x q) (some : 0 < x .left) where
+  module _ {d : ℕ} {x : Level} {q : List ℤ} (stands : Stands w t depth lent points d x q) (some : 0 < x .left) where
     deeper : d < depth
     deeper = omega (arith, stands .is-left)
 
@@ -243,7 +244,7 @@ module _ (t : HalfedgeTable) (depth : ℕ) (lent : Tables) (points : List ℤ) (
           at = omega (arith, climb-end);
         }
 
-    pub climb-on : {y : Level} {r : List ℤ} {d' : ℕ} → y ≡ nextLevel x → r ≡ withNextAt x lent q → d' ≡ d + 1 → Stands t depth lent points d' y r
+    pub climb-on : {y : Level} {r : List ℤ} {d' : ℕ} → y ≡ nextLevel x → r ≡ withNextAt w x lent q → d' ≡ d + 1 → Stands w t depth lent points d' y r
     climb-on e f z =
         rw (e, z)
         (record {

@@ -12,6 +12,7 @@ use borrow.Rule.Slice.PartMut.{putMid, midOf}
 use Rattle.laws.proofs.Middles.{rest-whole, rest-none}
 use Rattle.halfedges.specs.declared.table.HalfedgeTable.{HalfedgeTable}
 use Rattle.tables.specs.Tables.{Tables}
+use Rattle.points.specs.declared.weights.Weight.{Weight}
 use Rattle.passes.specs.Internal.Levels.{withNext, Ready}
 
 module _ (t : HalfedgeTable) (c : Tables) (at : ℕ) (points : List ℤ) where
@@ -20,7 +21,7 @@ module _ (t : HalfedgeTable) (c : Tables) (at : ℕ) (points : List ℤ) where
       rw (rest-whole points at)
       (record { relied = ready .relied; known = ready .known; fourfold = ready .fourfold; short = ready .short; in-range = ready .in-range; room = rw (length-drop at points) (omega (arith, ready .room)) })
 
-  pub part-back : putMid at (length points - at) points (withNext t c 0 (midOf at (length points - at) points)) ≡ withNext t c at points
+  pub part-back : (w : Weight) → putMid at (length points - at) points (withNext w t c 0 (midOf at (length points - at) points)) ≡ withNext w t c at points
   unfolding withNext
-  part-back =
+  part-back w =
       rw (rest-whole points at, rest-none points at, append-nil, zero-add (3 * t .vertices), drop-drop, take-add at (3 * t .vertices) points, append-assoc, add-assoc at (3 * t .vertices))

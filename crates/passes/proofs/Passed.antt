@@ -18,6 +18,7 @@ use Rattle.laws.proofs.Middles.{splice-ext}
 use Rattle.laws.proofs.Tabulate.{length-tabulate, getD-tabulate}
 use Rattle.halfedges.specs.declared.table.HalfedgeTable.{HalfedgeTable}
 use Rattle.tables.specs.Tables.{Tables}
+use Rattle.points.specs.declared.weights.Weight.{Weight}
 use Rattle.points.specs.PointRules.{V2, V3}
 use Rattle.points.specs.NextPoints.{coordinate, spokeEnds, creaseEnds, vertexPoint, newPoint, nextPoints}
 use Rattle.laws.specs.Totals.{total}
@@ -26,7 +27,8 @@ use Rattle.points.specs.Internal.Relied.{knownCorners, Fourfold, borderLeaves, 
 use Rattle.points.specs.Internal.Cells.{value}
 use Rattle.spokes.specs.Internal.Sums.{Laid, clearCell, Gathers}
 use Rattle.spokes.specs.Internal.Spokes.{gathered}
-use Rattle.spokes.specs.Internal.Vertices.{Settles, settle, SettlesAt}
+use Rattle.points.specs.Internal.Parts.{AsksInside}
+use Rattle.spokes.specs.Internal.Vertices.{settle, SettlesAt}
 use Rattle.edgepoints.specs.Internal.Edges.{Edged, Started, putEdge}
 use Rattle.passes.specs.Internal.Levels.{Ready, withNext}
 use Rattle.points.proofs.Numerators.{V3-at-most}
@@ -43,7 +45,7 @@ use Rattle.edgepoints.proofs.Meeting.{stage}
 use Rattle.edgepoints.proofs.Written.{written-only, edge-written, started-before}
 use Rattle.edgepoints.proofs.Joined.{joined-is}
 
-module _ (own : List ℕ) (before : ℕ) (t : HalfedgeTable) (c : Tables) (l : List ℤ) (ready : Ready own before t c 0 l) where
+module _ (w : Weight) (own : List ℕ) (before : ℕ) (t : HalfedgeTable) (c : Tables) (l : List ℤ) (ready : Ready own before t c 0 l) where
   abbrev n : ℕ
   n = t .vertices
 
@@ -64,7 +66,7 @@ module _ (own : List ℕ) (before : ℕ) (t : HalfedgeTable) (c : Tables) (l : L
   after-gather = gathered (c .vert) n before after-clear
 
   abbrev pub after-settle : List ℤ
-  after-settle = steps (3 * n) (settle own n) after-gather
+  after-settle = steps (3 * n) (settle w own n) after-gather
 
   abbrev pub after-write : List ℤ
   after-write = steps H (putEdge (c .twin) (c .vert) (c .edge) n after-settle) after-settle
@@ -93,7 +95,7 @@ module _ (own : List ℕ) (before : ℕ) (t : HalfedgeTable) (c : Tables) (l : L
   settle-only : Only (3 * n) (6 * n) l after-settle
   settle-only =
       only-on gather-only
-      (only-wider (3 * n) (6 * n) (le-refl _) (omega arith) (settled-only own n after-gather (gather-laid .room) (3 * n) (le-refl _)))
+      (only-wider (3 * n) (6 * n) (le-refl _) (omega arith) (settled-only w own n after-gather (gather-laid .room) (3 * n) (le-refl _)))
 
   settle-laid : Laid n after-settle
   settle-laid = laid-on laid settle-only
@@ -133,23 +135,23 @@ module _ (own : List ℕ) (before : ℕ) (t : HalfedgeTable) (c : Tables) (l : L
     place-now : coordinate after-gather k v ≡ coordinate points k v
     place-now = held gather-only .same v k lv lk
 
-    settles-one : Settles (knownCorners own v) (coordinate after-gather k v) (value after-gather (3 * n + 3 * v + k))
+    settles-one : AsksInside (knownCorners own v) (coordinate after-gather k v) (value after-gather (3 * n + 3 * v + k))
     settles-one =
         rw (spoke-sum, place-now)
         (record { some = omega (arith, relied .cornered .some v lv, ready .known .most v lv); few = ready .known .few v lv; place = small k v; small = spokes-small })
 
     -- V.3 of the known corners, in range
-    settled-place : value after-settle (3 * n + 3 * v + k) ≡ V3 (knownCorners own v) (coordinate points k v) spokes
+    settled-place : value after-settle (3 * n + 3 * v + k) ≡ V3 w (knownCorners own v) (coordinate points k v) spokes
     settled-place =
         let e : 3 * n + (3 * v + k) ≡ 3 * n + 3 * v + k = omega arith in
         let q : (3 * v + k) / 3 ≡ v = omega arith in
-        (rw (e, q) at (settled-is own n after-gather (gather-laid .room) (3 * v + k) (3 * n) (le-refl _) (omega arith)))
-        ∙ ap₂ (V3 (knownCorners own v)) place-now spoke-sum
+        (rw (e, q) at (settled-is w own n after-gather (gather-laid .room) (3 * v + k) (3 * n) (le-refl _) (omega arith)))
+        ∙ ap₂ (V3 w (knownCorners own v)) place-now spoke-sum
 
     place-small : natAbs (value after-settle (3 * n + 3 * v + k)) ≤ most-coordinate
     place-small =
         rw settled-place
-        (V3-at-most most-coordinate (knownCorners own v) (coordinate points k v) spokes (omega (arith, relied .cornered .some v lv, ready .known .most v lv)) (small k v) spokes-small)
+        (V3-at-most most-coordinate w (knownCorners own v) (coordinate points k v) spokes (omega (arith, relied .cornered .some v lv, ready .known .most v lv)) (small k v) spokes-small)
 
   -- what the third pass asks
   pub settles : (length own ≤ n) × (6 * n ≤ length after-gather) × ((i : ℕ) → i < 3 * n → SettlesAt own n i after-gather)
@@ -188,7 +190,7 @@ module _ (own : List ℕ) (before : ℕ) (t : HalfedgeTable) (c : Tables) (l : L
     abbrev ends : ℕ
     ends = length (creaseEnds (c .twin) (c .vert) v)
 
-    vertex-is : value after-write (3 * n + 3 * v + k) ≡ vertexPoint (c .twin) (c .vert) points v k
+    vertex-is : value after-write (3 * n + 3 * v + k) ≡ vertexPoint w (c .twin) (c .vert) points v k
     unfolding vertexPoint
     vertex-is =
         joined-is (c .twin) (c .vert) (c .edge) n points after-settle edged (held settle-only) (t .edges) (relied .carried) room-now v k lv lk (ready .in-range) (relied .bordered) (place-small v k lv lk) H (le-refl _)
@@ -197,13 +199,13 @@ module _ (own : List ℕ) (before : ℕ) (t : HalfedgeTable) (c : Tables) (l : L
         met : ℕ
         met = leaving + count H (borderEnds (c .twin) (c .vert) v)
 
-        by : Dec (leaving ≡ 0) → stage met (value after-settle (3 * n + 3 * v + k)) (coordinate points k v) (creaseSum (c .twin) (c .vert) points k v H) ≡ vertexPoint (c .twin) (c .vert) points v k
+        by : Dec (leaving ≡ 0) → stage met (value after-settle (3 * n + 3 * v + k)) (coordinate points k v) (creaseSum (c .twin) (c .vert) points k v H) ≡ vertexPoint w (c .twin) (c .vert) points v k
         by (yes z) =
             let none : met ≡ 0 = omega (arith, z, relied .bordered .pair v lv) in
             let no-ends : ends ≡ 0 = omega (arith, none, creases-counted (c .twin) (c .vert) v) in
             rw (eq-eqb ends 0 no-ends)
             (ap (λ m. stage m (value after-settle (3 * n + 3 * v + k)) (coordinate points k v) (creaseSum (c .twin) (c .vert) points k v H)) none
-            ∙ settled-place v k lv lk ∙ ap (λ m. V3 m (coordinate points k v) (spokes v k lv lk)) (sym (ready .known .inside v lv z)))
+            ∙ settled-place v k lv lk ∙ ap (λ m. V3 w m (coordinate points k v) (spokes v k lv lk)) (sym (ready .known .inside v lv z)))
         by (no z) =
             let two : met ≡ 2 = omega (arith, z, relied .bordered .pair v lv, relied .bordered .one v lv) in
             let some-ends : ends ≢ 0 = λ q. omega (arith, q, two, creases-counted (c .twin) (c .vert) v) in
@@ -217,11 +219,11 @@ module _ (own : List ℕ) (before : ℕ) (t : HalfedgeTable) (c : Tables) (l : L
       (written-only (c .twin) (c .vert) (c .edge) n points after-settle edged (held settle-only) (t .edges) (relied .carried) room-now H (le-refl _))
 
   -- every cell of the next level is its point's
-  new-is : (u k : ℕ) → u < n + t .edges → k < 3 → value after-write (3 * n + (3 * u + k)) ≡ newPoint t c points u k
+  new-is : (u k : ℕ) → u < n + t .edges → k < 3 → value after-write (3 * n + (3 * u + k)) ≡ newPoint w t c points u k
   unfolding newPoint
   new-is u k lu lk = by (decLt u n)
     where
-      by : Dec (u < n) → value after-write (3 * n + (3 * u + k)) ≡ newPoint t c points u k
+      by : Dec (u < n) → value after-write (3 * n + (3 * u + k)) ≡ newPoint w t c points u k
       by (yes lv) =
           let e : 3 * n + (3 * u + k) ≡ 3 * n + 3 * u + k = omega arith in
           rw (e, lt-ltb u n lv) (vertex-is u k lv lk)
@@ -231,7 +233,7 @@ module _ (own : List ℕ) (before : ℕ) (t : HalfedgeTable) (c : Tables) (l : L
           rw (e, le-ltb u n (omega (arith, lv)))
           (edge-written (c .twin) (c .vert) (c .edge) n points after-settle edged (held settle-only) (t .edges) (relied .carried) room-now (u - n) k le lk)
 
-  pub passed : after-write ≡ withNext t c 0 l
+  pub passed : after-write ≡ withNext w t c 0 l
   unfolding withNext nextPoints
   passed =
       rw (zero-add (3 * n))
@@ -242,15 +244,15 @@ module _ (own : List ℕ) (before : ℕ) (t : HalfedgeTable) (c : Tables) (l : L
       ∙ ap (λ k. take (3 * n) l ++ (next ++ drop (3 * n + k) l)) next-long)
     where
       next : List ℤ
-      next = nextPoints t c points
+      next = nextPoints w t c points
 
-      next-long : length (nextPoints t c points) ≡ 3 * (n + t .edges)
-      next-long = length-tabulate (3 * (n + t .edges)) (λ i. newPoint t c points (i / 3) (i % 3))
+      next-long : length (nextPoints w t c points) ≡ 3 * (n + t .edges)
+      next-long = length-tabulate (3 * (n + t .edges)) (λ i. newPoint w t c points (i / 3) (i % 3))
 
-      inside-next : (i : ℕ) → i < 3 * (n + t .edges) → value after-write (3 * n + i) ≡ value (nextPoints t c points) i
+      inside-next : (i : ℕ) → i < 3 * (n + t .edges) → value after-write (3 * n + i) ≡ value (nextPoints w t c points) i
       inside-next i b =
           let e : 3 * (i / 3) + i % 3 ≡ i = omega arith in
-          (rw e at (new-is (i / 3) (i % 3) (omega arith) (omega arith))) ∙ sym (getD-tabulate (3 * (n + t .edges)) (λ j. newPoint t c points (j / 3) (j % 3)) i (pos 0) b)
+          (rw e at (new-is (i / 3) (i % 3) (omega arith) (omega arith))) ∙ sym (getD-tabulate (3 * (n + t .edges)) (λ j. newPoint w t c points (j / 3) (j % 3)) i (pos 0) b)
 
       past : (i : ℕ) → 3 * n + 3 * (n + t .edges) ≤ i → value after-write i ≡ value l i
       past i b = write-only .other i (λ p q. omega arith)

@@ -4,6 +4,7 @@ ghost use Rattle.tables.specs.Tables.{tables};
 ghost use Rattle.passes.specs.Internal.Levels.{Ready, withNext, nextLevel, Climbs};
 use edgepoints::edges::write_edges;
 use halfedges::table::HalfedgeTable;
+use points::weights::Weight;
 use spokes::spokes::gather;
 use spokes::sums::clear_sums;
 use spokes::vertices::settle_vertices;
@@ -38,6 +39,7 @@ impl Level {
 
 // The next level's points, in a table that starts with the level's own.
 pub fn next_points(
+    weight: Weight,
     own: &[u32],
     level: Level,
     twin: &[u32],
@@ -47,12 +49,12 @@ pub fn next_points(
 )
     requires { ⌜ Ready (now own) (level .before) (level .counts) (tables (now twin) (now vert) (now edge)) 0 (now points) ⌝ }
     ensures { λ _.
-        ⌜ now (points .exit) ≡ withNext (level .counts) (tables (now (twin .entry)) (now (vert .entry)) (now (edge .entry))) 0
+        ⌜ now (points .exit) ≡ withNext weight (level .counts) (tables (now (twin .entry)) (now (vert .entry)) (now (edge .entry))) 0
         (now (points .entry)) ⌝ }
 {
     let vertices = level.counts.vertices;
     clear_sums(&mut *points, vertices);
     gather(vert, &mut *points, vertices, level.before);
-    settle_vertices(own, &mut *points, vertices);
+    settle_vertices(weight, own, &mut *points, vertices);
     write_edges(twin, vert, edge, &mut *points, vertices);
 }

@@ -5,10 +5,12 @@ ghost use Rattle.passes.specs.Internal.Levels.{ReadyLevel, withNextAt, R
 use crate::level::Level;
 use crate::level::next_points;
 use halfedges::table::HalfedgeTable;
+use points::weights::Weight;
 use tables::rules::count_numbers;
 
 // The next level's points, from tables that hold all levels.
 fn refine_level(
+    weight: Weight,
     own: &[u32],
     level: Level,
     twin: &[u32],
@@ -18,13 +20,14 @@ fn refine_level(
 )
     requires { ⌜ ReadyLevel (now own) level (tables (now twin) (now vert) (now edge)) (now points) ⌝ }
     ensures { λ _.
-        ⌜ now (points .exit) ≡ withNextAt level (tables (now (twin .entry)) (now (vert .entry)) (now (edge .entry)))
+        ⌜ now (points .exit) ≡ withNextAt weight level (tables (now (twin .entry)) (now (vert .entry)) (now (edge .entry)))
         (now (points .entry)) ⌝ }
 {
     let start = level.start;
     let end = start + level.counts.halfedges;
     let at = level.at;
     next_points(
+        weight,
         own,
         level,
         &twin[start..end],
@@ -36,21 +39,30 @@ fn refine_level(
 
 // The points of all levels after the cage, in a table that starts with the cage's, from tables that hold all levels and the
 // corners of the cage's vertices.
-fn climb(own: &[u32], cage: Level, twin: &[u32], vert: &[u32], edge: &[u32], points: &mut [i32])
+fn climb(
+    weight: Weight,
+    own: &[u32],
+    cage: Level,
+    twin: &[u32],
+    vert: &[u32],
+    edge: &[u32],
+    points: &mut [i32],
+)
     requires { ⌜ ReadyCage (now own) cage (tables (now twin) (now vert) (now edge)) (now points) ⌝ }
     ensures { λ _.
-        ⌜ now (points .exit) ≡ withLevels (cage .counts) (cage .left)
+        ⌜ now (points .exit) ≡ withLevels weight (cage .counts) (cage .left)
         (tables (now (twin .entry)) (now (vert .entry)) (now (edge .entry))) (now (points .entry)) ⌝ }
 {
     let mut level = cage;
     while level.left > 0 {
-        refine_level(own, level, twin, vert, edge, &mut *points);
+        refine_level(weight, own, level, twin, vert, edge, &mut *points);
         level = level.next();
     }
 }
 
 // The points of levels 1 to the depth, after those of the cage; the corners of the cage's vertices are counted first.
 pub fn refine_points(
+    weight: Weight,
     table: HalfedgeTable,
     depth: usize,
     twin: &[u32],
@@ -60,7 +72,7 @@ pub fn refine_points(
 )
     requires { ⌜ ReadyLevels table depth (tables (now twin) (now vert) (now edge)) (now points) ⌝ }
     ensures { λ _.
-        ⌜ now (points .exit) ≡ withLevels table depth (tables (now (twin .entry)) (now (vert .entry)) (now (edge .entry)))
+        ⌜ now (points .exit) ≡ withLevels weight table depth (tables (now (twin .entry)) (now (vert .entry)) (now (edge .entry)))
         (now (points .entry)) ⌝ }
 {
     let mut corners = [0u32; HalfedgeTable::MOST_HALFEDGES];
@@ -72,5 +84,13 @@ pub fn refine_points(
         start: 0,
         at: 0,
     };
-    climb(&corners[..table.vertices], cage, twin, vert, edge, points);
+    climb(
+        weight,
+        &corners[..table.vertices],
+        cage,
+        twin,
+        vert,
+        edge,
+        points,
+    );
 }

@@ -1,3 +1,4 @@
+pub mod Shares
 pub mod Numerators
 pub mod Ends
 pub mod Carriers

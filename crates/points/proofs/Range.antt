@@ -15,6 +15,7 @@ use Rattle.halfedges.specs.declared.table.HalfedgeTable.{HalfedgeTable}
 use Rattle.halfedges.specs.Cage.{border}
 use Rattle.halfedges.specs.Counts.{countsAt, Vs}
 use Rattle.tables.specs.Tables.{Tables}
+use Rattle.points.specs.declared.weights.Weight.{Weight}
 use Rattle.splitting.specs.NextLevel.{level}
 use Rattle.points.specs.NextPoints.{coordinate, corners, spokeEnds, creaseEnds, vertexPoint, edgePoint, newPoint, nextPoints, levelPoints}
 use Rattle.laws.specs.Totals.{total}
@@ -31,7 +32,7 @@ any-in-range points range i = by (decLt i (length points))
     by (yes l) = range i l
     by (no l) = rw (List·getD-eq-default points (pos 0) {n = i} (omega (arith, l))) (omega arith)
 
-module _ (t : HalfedgeTable) (c : Tables) (relied : Relied t c) (points : List ℤ) (range : InRange points) (k : ℕ) where
+module _ (w : Weight) (t : HalfedgeTable) (c : Tables) (relied : Relied t c) (points : List ℤ) (range : InRange points) (k : ℕ) where
   at-vertex : (v : ℕ) → natAbs (coordinate points k v) ≤ most-coordinate
   at-vertex v = any-in-range points range _
 
@@ -43,11 +44,11 @@ module _ (t : HalfedgeTable) (c : Tables) (relied : Relied t c) (points : List �
       rw (creases-are (c .twin) (c .vert) v points k)
       (omega (arith, creases-at-most (c .twin) (c .vert) v points k most-coordinate at-vertex (length (c .vert)), relied .bordered .one v l, relied .bordered .pair v l))
 
-  vertex-in-range : (v : ℕ) → v < t .vertices → natAbs (vertexPoint (c .twin) (c .vert) points v k) ≤ most-coordinate
+  vertex-in-range : (v : ℕ) → v < t .vertices → natAbs (vertexPoint w (c .twin) (c .vert) points v k) ≤ most-coordinate
   unfolding vertexPoint
   vertex-in-range v l =
       cond-keeps (λ z. natAbs z ≤ most-coordinate) (eqb (length (creaseEnds (c .twin) (c .vert) v)) 0)
-      (λ _. V3-at-most most-coordinate _ _ _ (relied .cornered .some v l) (at-vertex v) (spokes-small v))
+      (λ _. V3-at-most most-coordinate w _ _ _ (relied .cornered .some v l) (at-vertex v) (spokes-small v))
       (λ _. V2-at-most most-coordinate _ _ (at-vertex v) (creases-small v l))
 
   edge-in-range : (h : ℕ) → natAbs (edgePoint (c .twin) (c .vert) points h k) ≤ most-coordinate
@@ -57,26 +58,26 @@ module _ (t : HalfedgeTable) (c : Tables) (relied : Relied t c) (points : List �
       (λ _. E1-at-most most-coordinate _ _ (at-vertex _) (at-vertex _))
       (λ _. E2-at-most most-coordinate _ _ _ _ (at-vertex _) (at-vertex _) (at-vertex _) (at-vertex _))
 
-  new-in-range : (u : ℕ) → natAbs (newPoint t c points u k) ≤ most-coordinate
+  new-in-range : (u : ℕ) → natAbs (newPoint w t c points u k) ≤ most-coordinate
   unfolding newPoint
   new-in-range u =
       cond-keeps (λ z. natAbs z ≤ most-coordinate) (ltb u (t .vertices))
       (λ e. vertex-in-range u (ltb-true u (t .vertices) e))
       (λ _. edge-in-range _)
 
-pub next-in-range : (t : HalfedgeTable) (c : Tables) → Relied t c → (points : List ℤ) → InRange points → InRange (nextPoints t c points)
+pub next-in-range : (w : Weight) (t : HalfedgeTable) (c : Tables) → Relied t c → (points : List ℤ) → InRange points → InRange (nextPoints w t c points)
 unfolding nextPoints
-next-in-range t c relied points range i l =
-    let b : i < 3 * (t .vertices + t .edges) = rw (length-tabulate (3 * (t .vertices + t .edges)) (λ j. newPoint t c points (j / 3) (j % 3))) at l in
-    rw (getD-tabulate (3 * (t .vertices + t .edges)) (λ j. newPoint t c points (j / 3) (j % 3)) i (pos 0) b) (new-in-range t c relied points range (i % 3) (i / 3))
+next-in-range w t c relied points range i l =
+    let b : i < 3 * (t .vertices + t .edges) = rw (length-tabulate (3 * (t .vertices + t .edges)) (λ j. newPoint w t c points (j / 3) (j % 3))) at l in
+    rw (getD-tabulate (3 * (t .vertices + t .edges)) (λ j. newPoint w t c points (j / 3) (j % 3)) i (pos 0) b) (new-in-range w t c relied points range (i % 3) (i / 3))
 
 -- how many coordinates a level has
-pub level-points-long : (t : HalfedgeTable) (c : Tables) (points : List ℤ) → length points ≡ 3 * t .vertices → (d : ℕ) → length (levelPoints t c points d) ≡ 3 * Vs t d
+pub level-points-long : (w : Weight) (t : HalfedgeTable) (c : Tables) (points : List ℤ) → length points ≡ 3 * t .vertices → (d : ℕ) → length (levelPoints w t c points d) ≡ 3 * Vs t d
 unfolding levelPoints countsAt nextPoints
-level-points-long t c points e zero = e
-level-points-long t c points e (suc d) = length-tabulate (3 * (countsAt t d .vertices + countsAt t d .edges)) (λ i. newPoint (countsAt t d) (level t c d) (levelPoints t c points d) (i / 3) (i % 3))
+level-points-long w t c points e zero = e
+level-points-long w t c points e (suc d) = length-tabulate (3 * (countsAt t d .vertices + countsAt t d .edges)) (λ i. newPoint w (countsAt t d) (level t c d) (levelPoints w t c points d) (i / 3) (i % 3))
 
-pub levels-in-range : (t : HalfedgeTable) (c : Tables) (points : List ℤ) (depth : ℕ) → ((d : ℕ) → d < depth → Relied (countsAt t d) (level t c d)) → InRange points → (d : ℕ) → d ≤ depth → InRange (levelPoints t c points d)
+pub levels-in-range : (w : Weight) (t : HalfedgeTable) (c : Tables) (points : List ℤ) (depth : ℕ) → ((d : ℕ) → d < depth → Relied (countsAt t d) (level t c d)) → InRange points → (d : ℕ) → d ≤ depth → InRange (levelPoints w t c points d)
 unfolding levelPoints
-levels-in-range t c points depth relied range zero l = range
-levels-in-range t c points depth relied range (suc d) l = next-in-range (countsAt t d) (level t c d) (relied d l) (levelPoints t c points d) (levels-in-range t c points depth relied range d (omega arith))
+levels-in-range w t c points depth relied range zero l = range
+levels-in-range w t c points depth relied range (suc d) l = next-in-range w (countsAt t d) (level t c d) (relied d l) (levelPoints w t c points d) (levels-in-range w t c points depth relied range d (omega arith))

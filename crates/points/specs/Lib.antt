@@ -1,3 +1,4 @@
+pub mod Weights
 pub mod PointRules
 pub mod NextPoints
 pub mod Operations

@@ -11,6 +11,7 @@ use Rattle.halfedges.specs.Cage.{NEXT, PREV, cell, border}
 use Rattle.halfedges.specs.Counts.{countsAt}
 use Rattle.tables.specs.Tables.{Tables, leaves}
 use Rattle.splitting.specs.NextLevel.{level}
+use Rattle.points.specs.declared.weights.Weight.{Weight}
 use Rattle.points.specs.PointRules.{E1, E2, V2, V3}
 use Rattle.laws.specs.Totals.{total}
 
@@ -44,11 +45,11 @@ creaseEnds twin vert v =
     map (far vert) (select (length vert) (λ h. crease twin h && leaves vert v h))
     ++ map (cell vert) (select (length vert) (λ h. border twin h && eqb (far vert h) v))
 
--- the new place of vertex v: V.3 where it has no crease, else V.2
-unfoldable pub vertexPoint : List ℕ → List ℕ → List ℤ → ℕ → ℕ → ℤ
-vertexPoint twin vert points v k =
+-- the new place of vertex v: V.3 by the weight chosen where it has no crease, else V.2
+unfoldable pub vertexPoint : Weight → List ℕ → List ℕ → List ℤ → ℕ → ℕ → ℤ
+vertexPoint w twin vert points v k =
     cond (eqb (length (creaseEnds twin vert v)) 0)
-    (V3 (length (corners vert v)) (coordinate points k v) (total (map (coordinate points k) (spokeEnds vert v))))
+    (V3 w (length (corners vert v)) (coordinate points k v) (total (map (coordinate points k) (spokeEnds vert v))))
     (V2 (coordinate points k v) (total (map (coordinate points k) (creaseEnds twin vert v))))
 
 -- the point of h's edge, with ends a, b and opposite corners c, d: E.1 where it is a crease, else E.2
@@ -65,16 +66,16 @@ abbrev pub carrier : List ℕ → ℕ → ℕ
 carrier edge e = lowest (length edge) (λ h. eqb (cell edge h) e)
 
 -- "V becomes V+E": the old vertices, then a vertex for each edge
-unfoldable pub newPoint : HalfedgeTable → Tables → List ℤ → ℕ → ℕ → ℤ
-newPoint t c points u k =
+unfoldable pub newPoint : Weight → HalfedgeTable → Tables → List ℤ → ℕ → ℕ → ℤ
+newPoint w t c points u k =
     cond (ltb u (t .vertices))
-    (vertexPoint (c .twin) (c .vert) points u k)
+    (vertexPoint w (c .twin) (c .vert) points u k)
     (edgePoint (c .twin) (c .vert) points (carrier (c .edge) (u - t .vertices)) k)
 
-unfoldable pub nextPoints : HalfedgeTable → Tables → List ℤ → List ℤ
-nextPoints t c points = tabulate (3 * (t .vertices + t .edges)) (λ i. newPoint t c points (i / 3) (i % 3))
+unfoldable pub nextPoints : Weight → HalfedgeTable → Tables → List ℤ → List ℤ
+nextPoints w t c points = tabulate (3 * (t .vertices + t .edges)) (λ i. newPoint w t c points (i / 3) (i % 3))
 
 -- the points of level d of a cage with counts t, each rounded "once, per level"
-unfoldable pub levelPoints : HalfedgeTable → Tables → List ℤ → ℕ → List ℤ
-levelPoints t c points zero = points
-levelPoints t c points (suc d) = nextPoints (countsAt t d) (level t c d) (levelPoints t c points d)
+unfoldable pub levelPoints : Weight → HalfedgeTable → Tables → List ℤ → ℕ → List ℤ
+levelPoints w t c points zero = points
+levelPoints w t c points (suc d) = nextPoints w (countsAt t d) (level t c d) (levelPoints w t c points d)

@@ -1,19 +1,23 @@
 -- What the cage check and refining answer, and what they leave in every lent table.
 use Prim.Native.Nat.{ℕ, suc, _*_, _/_, _%_, _≤_, _<_}
-use mathlib.Core.Bool.{Bool, not, _||_}
+use mathlib.Core.Bool.{Bool, not, _&&_, _||_}
 use mathlib.Core.List.{List, [], _∷_, _++_}
 use lib.Dec.{eqb, ltb}
 use lib.IntN.{ℤ, pos, natAbs}
 use lib.ListN.{length, getD, replicate}
 use Rattle.halfedges.specs.declared.table.Levels.{Levels}
-use Rattle.laws.specs.Below.{endToEnd}
-use Rattle.halfedges.specs.Refusals.{Verdict, SHAPE, LIMIT, POINT, given, givenAt, short, first, Said, said, filled}
+use Rattle.laws.specs.Below.{any, endToEnd}
+use Rattle.halfedges.specs.Cage.{border}
+use Rattle.halfedges.specs.Refusals.{Verdict, SHAPE, LIMIT, POINT, VALENCE, given, givenAt, short, first, Said, said, filled}
 use Rattle.halfedges.specs.Counts.{noLevels, roomH, roomV, aboveLimit, countQuestion}
-use Rattle.tables.specs.Tables.{Tables, countsOf}
+use Rattle.tables.specs.Tables.{Tables, countsOf, leaves}
 use Rattle.tables.specs.Rules.{misshapen}
 use Rattle.tables.specs.Check.{rules, returned}
 use Rattle.levels.specs.Refining.{shortTables, filledTables, levelsEndToEnd}
-use Rattle.points.specs.NextPoints.{levelPoints}
+use Rattle.points.specs.declared.weights.Weight.{Weight}
+use Rattle.points.specs.declared.weights.Weight.the-variants.{Short, Paper}
+use Rattle.points.specs.Weights.{most-valence}
+use Rattle.points.specs.NextPoints.{corners, far, levelPoints}
 
 -- "V is its length over three"
 abbrev pub vertices : List ℤ → ℕ
@@ -35,23 +39,48 @@ outOfRange points i = ltb most-coordinate (natAbs (getD points i (pos 0)))
 abbrev pub InRange : List ℤ → Type 0
 InRange points = (i : ℕ) → i < length points → natAbs (getD points i (pos 0)) ≤ most-coordinate
 
--- rules 1 to 8 in number order
-unfoldable pub cageChecks : Tables → List ℤ → ℕ → List Verdict
-cageChecks c points depth =
+-- h has no twin, and leaves v or ends there
+abbrev pub borderAt : List ℕ → List ℕ → ℕ → ℕ → Bool
+borderAt twin vert v h = border twin h && (leaves vert v h || eqb (far vert h) v)
+
+-- v lies on a border
+unfoldable pub onBorder : List ℕ → List ℕ → ℕ → Bool
+onBorder twin vert v = any (length vert) (borderAt twin vert v)
+
+-- 14 "inner vertex of more than 32 corners"
+unfoldable pub manyCorners : List ℕ → List ℕ → ℕ → Bool
+manyCorners twin vert v = not (onBorder twin vert v) && ltb most-valence (length (corners vert v))
+
+-- 14 "in refining with this weight only", the paper's
+abbrev pub valenceChecks : Weight → List ℕ → List ℕ → ℕ → List Verdict
+valenceChecks Short twin vert v = []
+valenceChecks Paper twin vert v = givenAt v (manyCorners twin vert) VALENCE ∷ []
+
+-- rules 1 to 8 in number order, with more checks "after 7 and before 8"
+abbrev pub checksWith : List Verdict → Tables → List ℤ → ℕ → List Verdict
+checksWith more c points depth =
     given (misshapen c || not (eqb (length points % 3) 0)) SHAPE
     ∷ given (aboveLimit (length (c .twin)) (vertices points) depth) LIMIT
-    ∷ (rules c (vertices points) ++ (givenAt (length points) (outOfRange points) POINT ∷ []))
+    ∷ (rules c (vertices points) ++ (more ++ (givenAt (length points) (outOfRange points) POINT ∷ [])))
+
+-- rules 1 to 8 in number order
+unfoldable pub cageChecks : Tables → List ℤ → ℕ → List Verdict
+cageChecks c points depth = checksWith [] c points depth
+
+-- and 14 for the weight chosen
+unfoldable pub refineChecks : Weight → Tables → List ℤ → ℕ → List Verdict
+refineChecks w c points depth = checksWith (valenceChecks w (c .twin) (c .vert) (vertices points)) c points depth
 
 -- "The cage check has no depth and gives 1 to 8"
 unfoldable pub checkCage : Tables → List ℤ → Said (List ℕ)
 checkCage c points = said (first (cageChecks c points 0)) (returned (c .twin) (vertices points)) (replicate 5 0)
 
--- "Refining gives 1 to 9"; "Room is the sum of H in each of the first three, three times the sum of V in the points"
-unfoldable pub refineVerdict : Tables → List ℤ → ℕ → Tables → List ℤ → Verdict
-refineVerdict c points depth lent lentPoints =
+-- "Refining gives 1 to 9", and 14; "Room is the sum of H in each of the first three, three times the sum of V in the points"
+unfoldable pub refineVerdict : Weight → Tables → List ℤ → ℕ → Tables → List ℤ → Verdict
+refineVerdict w c points depth lent lentPoints =
     let t = countsOf c (vertices points) in
     first
-    (cageChecks c points depth
+    (refineChecks w c points depth
     ++ (shortTables (roomH t depth) lent ++ (short 4 (3 * roomV t depth) (length lentPoints) ∷ [])))
 
 pub record Refined : Type 0 where
@@ -60,12 +89,12 @@ pub record Refined : Type 0 where
   pub points : List ℤ
 
 -- "Refining writes levels 0 to D end to end in the four lent tables"; "Done returns the count question's answer for this cage and depth"
-unfoldable pub refineCage : Tables → List ℤ → ℕ → Tables → List ℤ → Refined
-refineCage c points depth lent lentPoints =
+unfoldable pub refineCage : Weight → Tables → List ℤ → ℕ → Tables → List ℤ → Refined
+refineCage w c points depth lent lentPoints =
     let t = countsOf c (vertices points) in
-    let verdict = refineVerdict c points depth lent lentPoints in
+    let verdict = refineVerdict w c points depth lent lentPoints in
     record {
       answer = said verdict (countQuestion t depth .values) noLevels;
       lent = filledTables verdict (levelsEndToEnd t c depth) lent;
-      points = filled verdict (endToEnd (suc depth) (levelPoints t c points)) lentPoints;
+      points = filled verdict (endToEnd (suc depth) (levelPoints w t c points)) lentPoints;
     }

@@ -1,7 +1,10 @@
 -- Document 01, "Points": the four rules, for one coordinate.
 use Prim.Native.Nat.{ℕ, _-_, _*_}
 use lib.IntN.{ℤ, pos, _+ℤ_, _*ℤ_}
+use Rattle.points.specs.declared.weights.Weight.{Weight}
+use Rattle.points.specs.declared.weights.Share.{Share}
 use Rattle.rounding.specs.Rounding.{round}
+use Rattle.points.specs.Weights.{share}
 
 -- E.1 "Border edge with ends a, b: (a+b)/2"
 unfoldable pub E1 : ℤ → ℤ → ℤ
@@ -15,15 +18,11 @@ E2 a b c d = round (pos 3 *ℤ a +ℤ pos 3 *ℤ b +ℤ c +ℤ d) 8
 unfoldable pub V2 : ℤ → ℤ → ℤ
 V2 v s = round (pos 6 *ℤ v +ℤ s) 8
 
--- the weight of one spoke: a part of a whole
-pub record Weight : Type 0 where
-  pub part : ℕ
-  pub whole : ℕ
+-- what a place has where each of n spokes has its share: the rest of the whole
+abbrev pub rest : Share → ℕ → ℕ
+rest a n = a .whole - n * a .part
 
--- "the short weight 3/(8n) for every valence n"
-abbrev pub weight : ℕ → Weight
-weight n = record { part = 3; whole = 8 * n }
-
--- V.3 "Inner vertex of n corners, with s the sum over its n spokes' far ends: (5n·v+3s)/(8n)", 5n being what n parts of 3 leave of 8n
-unfoldable pub V3 : ℕ → ℤ → ℤ → ℤ
-V3 n v s = round (pos (weight n .whole - n * weight n .part) *ℤ v +ℤ pos (weight n .part) *ℤ s) (weight n .whole)
+-- V.3 "Inner vertex of n corners, with s the sum over its n spokes' far ends", by the weight chosen: "(5n·v+3s)/(8n)" with the short
+-- one, "((2^24−n·w)·v + w·s)/2^24" with the paper's
+unfoldable pub V3 : Weight → ℕ → ℤ → ℤ → ℤ
+V3 w n v s = round (pos (rest (share w n) n) *ℤ v +ℤ pos (share w n .part) *ℤ s) (share w n .whole)

@@ -2,9 +2,11 @@
 ghost use mathlib.Core.Path.{_≡_};
 ghost use Prim.Native.Nat.{_*_, _≤_};
 ghost use lib.IntN.{natAbs};
+ghost use Rattle.points.specs.declared.weights.Weight.{Weight as Any·Weight};
 ghost use Rattle.points.specs.PointRules.{E1, V3};
 ghost use Rattle.points.specs.Operations.{most-coordinate};
 ghost use Rattle.points.specs.Internal.Parts.{started, finished, met, AsksInside};
+use crate::weights::Weight;
 use rounding::rounded;
 
 // The largest coordinate of a cage.
@@ -54,21 +56,24 @@ pub fn border_vertex(now: i32, vertex: i32, neighbour: i32) -> i32
     rounded(numerator, 8)
 }
 
-// V.3 with six corners, (10v+s)/16.
+// V.3 with six corners, (10v+s)/16 by either weight.
 pub fn added_vertex(vertex: i32, sum: i32) -> i32
     requires { ⌜ (natAbs vertex ≤ most-coordinate) × (natAbs sum ≤ most-coordinate * 6) ⌝ }
-    ensures { λ r. ⌜ r ≡ V3 6 vertex sum ⌝ }
+    ensures { λ r. ⌜ ((w : Any·Weight) → r ≡ V3 w 6 vertex sum) ⌝ }
 {
     let numerator = (10 * vertex + sum) as i64;
     rounded(numerator, 16)
 }
 
 // V.3: the new place of an inner vertex, with its number of corners and the sum over its spokes' far ends.
-pub fn inner_vertex(corners: i64, vertex: i64, sum: i64) -> i32
+pub fn inner_vertex(weight: Weight, corners: u32, vertex: i32, sum: i32) -> i32
     requires { ⌜ AsksInside corners vertex sum ⌝ }
-    ensures { λ r. ⌜ r ≡ V3 (natAbs corners) vertex sum ⌝ }
+    ensures { λ r. ⌜ r ≡ V3 weight corners vertex sum ⌝ }
 {
-    let numerator = 5 * corners * vertex + 3 * sum;
-    let denominator = 8 * corners;
-    rounded(numerator, denominator)
+    let share = weight.share(corners);
+    let part = share.part;
+    let whole = share.whole;
+    let rest = whole - corners * part;
+    let numerator = rest as i64 * vertex as i64 + part as i64 * sum as i64;
+    rounded(numerator, whole as i64)
 }

@@ -1,4 +1,5 @@
 pub mod Relying
 pub mod Refined
 pub mod Readied
+pub mod Weighed
 pub mod Whole

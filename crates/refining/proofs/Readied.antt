@@ -23,6 +23,7 @@ use Rattle.splitting.specs.Internal.InPlace.{Sound}
 use Rattle.levels.specs.Internal.Filling.{tablesInFront}
 use Rattle.levels.specs.Refining.{levelsEndToEnd}
 use Rattle.levels.proofs.Granted.{Granted, granted}
+use Rattle.points.specs.declared.weights.Weight.{Weight}
 use Rattle.points.specs.NextPoints.{corners, levelPoints}
 use Rattle.points.proofs.Range.{level-points-long}
 use Rattle.points.specs.Operations.{vertices, refineVerdict, refineCage}
@@ -51,16 +52,16 @@ module _ (t : HalfedgeTable) (c : Tables) (s : Sound t c) (depth : ℕ) (x : Tab
       let w = starts-within (c .vert) (inFront (endToEnd (suc depth) f) (x .vert)) (rw (s .vert-long) (first-there f (x .vert) (s .vert-long))) in
       omega (arith, s .vert-long)
 
-module _ (c : Tables) (points : List ℤ) (depth : ℕ) (x : Tables) (xp : List ℤ) (e : refineVerdict c points depth x xp ≡ DONE) where
+module _ (w : Weight) (c : Tables) (points : List ℤ) (depth : ℕ) (x : Tables) (xp : List ℤ) (e : refineVerdict w c points depth x xp ≡ DONE) where
   abbrev t : HalfedgeTable
   t = countsOf c (vertices points)
 
   g : Granted c (vertices points) depth
-  g = granted c (vertices points) depth (tables-done c points depth (both-done c points depth x xp e .0))
+  g = granted c (vertices points) depth (tables-done w c points depth (both-done w c points depth x xp e .0))
 
   -- the points have whole triples
   threes : 3 * vertices points ≡ length points
-  threes = omega (arith, whole c points depth (both-done c points depth x xp e .0))
+  threes = omega (arith, whole w c points depth (both-done w c points depth x xp e .0))
 
   points-there : take (3 * t .vertices) (inFront points xp) ≡ points
   points-there = rw threes (part-inFront points xp)
@@ -80,35 +81,35 @@ module _ (c : Tables) (points : List ℤ) (depth : ℕ) (x : Tables) (xp : List 
         twins = rw (cage-there t c (g .sound) depth x) (take-append-seam (levelsEndToEnd t c depth .twin) _);
         verts = rw (cage-there t c (g .sound) depth x) (take-append-seam (levelsEndToEnd t c depth .vert) _);
         edges = rw (cage-there t c (g .sound) depth x) (take-append-seam (levelsEndToEnd t c depth .edge) _);
-        relied = λ d l. rw (cage-there t c (g .sound) depth x) (relied c (vertices points) depth (tables-done c points depth (both-done c points depth x xp e .0)) d (omega (arith, g .shallow)));
+        relied = λ d l. rw (cage-there t c (g .sound) depth x) (relied c (vertices points) depth (tables-done w c points depth (both-done w c points depth x xp e .0)) d (omega (arith, g .shallow)));
         known = λ d l.
             subst (λ q. Known (tabulate (vertices points) (λ u. length (corners (q .vert) u))) (level t q d .twin) (level t q d .vert) (Vs t d)) (sym (cage-there t c (g .sound) depth x))
-            (known c (vertices points) depth (tables-done c points depth (both-done c points depth x xp e .0)) d (omega (arith, g .shallow)));
-        in-range = rw points-there (in-range c points depth (both-done c points depth x xp e .0));
-        room = rw (length-inFront points xp (omega (arith, cage-points-fit, points-roomy c points depth x xp e))) (points-roomy c points depth x xp e);
+            (known c (vertices points) depth (tables-done w c points depth (both-done w c points depth x xp e .0)) d (omega (arith, g .shallow)));
+        in-range = rw points-there (in-range w c points depth (both-done w c points depth x xp e .0));
+        room = rw (length-inFront points xp (omega (arith, cage-points-fit, points-roomy w c points depth x xp e))) (points-roomy w c points depth x xp e);
       }
 
-  pub level-long : (d : ℕ) → length (levelPoints t c points d) ≡ 3 * Vs t d
-  level-long = level-points-long t c points (sym threes)
+  pub level-long : (d : ℕ) → length (levelPoints w t c points d) ≡ 3 * Vs t d
+  level-long = level-points-long w t c points (sym threes)
 
-  levels-over : withLevels t depth (tablesInFront (levelsEndToEnd t c depth) x) (inFront points xp) ≡ inFront (endToEnd (suc depth) (levelPoints t c points)) xp
+  levels-over : withLevels w t depth (tablesInFront (levelsEndToEnd t c depth) x) (inFront points xp) ≡ inFront (endToEnd (suc depth) (levelPoints w t c points)) xp
   unfolding withLevels
   levels-over =
       rw (cage-there t c (g .sound) depth x, points-there)
-      (inFront-over points xp (endToEnd (suc depth) (levelPoints t c points))
-      (omega (arith, cage-points-fit, length-multiples 3 (levelPoints t c points) (Vs t) (suc depth) (λ d l. level-long d))))
+      (inFront-over points xp (endToEnd (suc depth) (levelPoints w t c points))
+      (omega (arith, cage-points-fit, length-multiples 3 (levelPoints w t c points) (Vs t) (suc depth) (λ d l. level-long d))))
 
   -- the cage's points can be copied
   pub points-fit : length points ≤ length xp
-  points-fit = omega (arith, cage-points-fit, points-roomy c points depth x xp e)
+  points-fit = omega (arith, cage-points-fit, points-roomy w c points depth x xp e)
 
   -- what is ready and the outcome, with the counts, tables and points as the code has them
   module _ {u : HalfedgeTable} {y : Tables} {z : List ℤ} (p : u ≡ t) (q : y ≡ tablesInFront (levelsEndToEnd u c depth) x) (r : z ≡ inFront points xp) where
     pub readied : ReadyLevels u depth y z
     readied = rw (q, p, r) ready
 
-    pub outcome : {k : Said Levels} {ps : List ℤ} → k ≡ countQuestion u depth → ps ≡ withLevels u depth y z → (k ≡ refineCage c points depth x xp .answer) × (y ≡ refineCage c points depth x xp .lent) × (ps ≡ refineCage c points depth x xp .points)
+    pub outcome : {k : Said Levels} {ps : List ℤ} → k ≡ countQuestion u depth → ps ≡ withLevels w u depth y z → (k ≡ refineCage w c points depth x xp .answer) × (y ≡ refineCage w c points depth x xp .lent) × (ps ≡ refineCage w c points depth x xp .points)
     outcome f g =
-        let d = refine-done c points depth x xp e in
+        let d = refine-done w c points depth x xp e in
         let w : y ≡ tablesInFront (levelsEndToEnd t c depth) x = rw p at q in
         (rw p at f ∙ d .0, w ∙ d .1, g ∙ rw (w, p, r) levels-over ∙ d .2)

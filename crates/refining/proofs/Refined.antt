@@ -1,4 +1,4 @@
--- What a cage has where checks 1 to 8 are done (`whole`, `tables-done`, `in-range`, `counts-granted`); the verdict of refining, as
+-- What a cage has where checks 1 to 8, and 14, are done (`whole`, `tables-done`, `valences-done`, `in-range`, `counts-granted`); the verdict of refining, as
 -- the code goes (`cage-refused`, `tables-short`, `points-short`, `all-roomy`); what it leaves where it is done (`both-done`,
 -- `all-refinable`, `points-roomy`); and the outcome (`refine-refused`, `refine-done`). Assumes nothing.
 use Prim.Native.Nat.{ℕ, suc, _*_, _%_, _≤_, _<_}
@@ -29,24 +29,31 @@ use Rattle.levels.specs.Internal.Filling.{tablesInFront, Refinable}
 use Rattle.tables.specs.Check.{tableChecks}
 use Rattle.levels.specs.Refining.{shortTables, filledTables, levelsEndToEnd}
 use Rattle.levels.proofs.Granted.{granted, refinable}
+use Rattle.points.specs.declared.weights.Weight.{Weight}
 use Rattle.points.specs.NextPoints.{levelPoints}
-use Rattle.points.specs.Operations.{vertices, outOfRange, cageChecks, refineVerdict, refineCage, InRange}
+use Rattle.points.specs.Operations.{vertices, outOfRange, valenceChecks, refineChecks, refineVerdict, refineCage, InRange}
 use Rattle.cage.proofs.CageChecks.{checks-then}
 
-module _ (c : Tables) (points : List ℤ) (depth : ℕ) (e : first (cageChecks c points depth) ≡ DONE) where
+module _ (w : Weight) (c : Tables) (points : List ℤ) (depth : ℕ) (e : first (refineChecks w c points depth) ≡ DONE) where
   pub whole : length points % 3 ≡ 0
-  unfolding cageChecks
+  unfolding refineChecks
   whole = eqb-true _ _ (not-false _ (or-false (misshapen c) _ (done-passes _ SHAPE _ refl e .0) .1))
 
-  parts : (first (tableChecks c (vertices points) depth) ≡ DONE) × (first (givenAt (length points) (outOfRange points) POINT ∷ []) ≡ DONE)
-  parts = done-both _ _ (rw (checks-then c points depth whole) at e)
+  parts :
+      (first (tableChecks c (vertices points) depth) ≡ DONE)
+      × (first (valenceChecks w (c .twin) (c .vert) (vertices points)) ≡ DONE)
+      × (first (givenAt (length points) (outOfRange points) POINT ∷ []) ≡ DONE)
+  parts = let p = done-both _ _ (rw (checks-then w c points depth whole) at e) in let q = done-both _ _ (p .1) in (p .0, q .0, q .1)
 
   pub tables-done : first (tableChecks c (vertices points) depth) ≡ DONE
   tables-done = parts .0
 
+  pub valences-done : first (valenceChecks w (c .twin) (c .vert) (vertices points)) ≡ DONE
+  valences-done = parts .1
+
   pub in-range : InRange points
   unfolding outOfRange
-  in-range i l = ltb-false _ _ (done-nowhere (length points) (outOfRange points) POINT [] (λ k. refl) (parts .1) .0 i l)
+  in-range i l = ltb-false _ _ (done-nowhere (length points) (outOfRange points) POINT [] (λ k. refl) (parts .2) .0 i l)
 
 -- the vertices of seven levels are no large number
 pub few-vertices : (t : HalfedgeTable) (depth : ℕ) {l : Levels} → AtMost most-halfedges t × depth ≤ most-depth → l ≡ levels t depth → l .«vertex_room» ≤ 88080384
@@ -55,19 +62,19 @@ few-vertices t depth a e =
     rw e (omega (arith, sum-at-most (suc depth) 12582912 (Vs t) (λ d m. let b = levels-at-most most-halfedges 6 t (a .0) d (omega (arith, a .1)) in omega (arith, b .vertices))))
 
 -- a tells the first of 1 to 8
-module _ (c : Tables) (points : List ℤ) (depth : ℕ) (a : Answer) {n : ℕ} (e : told a ≡ first (cageChecks c points depth)) (m : n ≡ told a .number) where
-  pub cage-refused : (x : Tables) (xp : List ℤ) → n ≢ 0 → told a ≡ refineVerdict c points depth x xp
+module _ (w : Weight) (c : Tables) (points : List ℤ) (depth : ℕ) (a : Answer) {n : ℕ} (e : told a ≡ first (refineChecks w c points depth)) (m : n ≡ told a .number) where
+  pub cage-refused : (x : Tables) (xp : List ℤ) → n ≢ 0 → told a ≡ refineVerdict w c points depth x xp
   unfolding refineVerdict
   cage-refused x xp r = first-stops _ _ (told a) e (λ z. r (m ∙ z))
 
-  pub cage-done : n ≡ 0 → first (cageChecks c points depth) ≡ DONE
+  pub cage-done : n ≡ 0 → first (refineChecks w c points depth) ≡ DONE
   cage-done z = sym e ∙ zero-done a (sym m ∙ z)
 
 -- what then holds of the counts
-pub counts-granted : (c : Tables) (points : List ℤ) (depth : ℕ) → first (cageChecks c points depth) ≡ DONE → {u : HalfedgeTable} → u ≡ countsOf c (vertices points) → AtMost most-halfedges u × depth ≤ most-depth
-counts-granted c points depth d p = let g = granted c (vertices points) depth (tables-done c points depth d) in rw p (g .small, g .shallow)
+pub counts-granted : (w : Weight) (c : Tables) (points : List ℤ) (depth : ℕ) → first (refineChecks w c points depth) ≡ DONE → {u : HalfedgeTable} → u ≡ countsOf c (vertices points) → AtMost most-halfedges u × depth ≤ most-depth
+counts-granted w c points depth d p = let g = granted c (vertices points) depth (tables-done w c points depth d) in rw p (g .small, g .shallow)
 
-module _ (c : Tables) (points : List ℤ) (depth : ℕ) (x : Tables) (xp : List ℤ) where
+module _ (w : Weight) (c : Tables) (points : List ℤ) (depth : ℕ) (x : Tables) (xp : List ℤ) where
   abbrev rooms : List Verdict
   rooms = shortTables (roomH (countsOf c (vertices points)) depth) x
 
@@ -75,41 +82,41 @@ module _ (c : Tables) (points : List ℤ) (depth : ℕ) (x : Tables) (xp : List 
   last = short 4 (3 * roomV (countsOf c (vertices points)) depth) (length xp) ∷ []
 
   -- where 1 to 8 pass, b tells the first short table of the three, with the counts as the code has them
-  module _ (d : first (cageChecks c points depth) ≡ DONE) {u : HalfedgeTable} (p : u ≡ countsOf c (vertices points)) (b : Answer) {n : ℕ} (e : told b ≡ first (shortTables (roomH u depth) x)) (m : n ≡ told b .number) where
+  module _ (d : first (refineChecks w c points depth) ≡ DONE) {u : HalfedgeTable} (p : u ≡ countsOf c (vertices points)) (b : Answer) {n : ℕ} (e : told b ≡ first (shortTables (roomH u depth) x)) (m : n ≡ told b .number) where
     short-told : told b ≡ first rooms
     short-told = e ∙ ap (λ (t : HalfedgeTable). first (shortTables (roomH t depth) x)) p
 
-    pub tables-short : n ≢ 0 → told b ≡ refineVerdict c points depth x xp
+    pub tables-short : n ≢ 0 → told b ≡ refineVerdict w c points depth x xp
     unfolding refineVerdict
-    tables-short r = first-stops rooms last (told b) short-told (λ z. r (m ∙ z)) ∙ sym (first-more (cageChecks c points depth) _ d)
+    tables-short r = first-stops rooms last (told b) short-told (λ z. r (m ∙ z)) ∙ sym (first-more (refineChecks w c points depth) _ d)
 
     module _ (z : n ≡ 0) {l : Levels} (q : l ≡ levels u depth) where
-      room-left : first last ≡ refineVerdict c points depth x xp
+      room-left : first last ≡ refineVerdict w c points depth x xp
       unfolding refineVerdict
-      room-left = sym (first-more (cageChecks c points depth) _ d ∙ first-more rooms last (sym short-told ∙ zero-done b (sym m ∙ z)))
+      room-left = sym (first-more (refineChecks w c points depth) _ d ∙ first-more rooms last (sym short-told ∙ zero-done b (sym m ∙ z)))
 
       point-room : l .«vertex_room» ≡ roomV (countsOf c (vertices points)) depth
       unfolding levels
       point-room = ap (λ (k : Levels). k .«vertex_room») q ∙ ap (λ (t : HalfedgeTable). roomV t depth) p
 
-      pub points-short : length xp < 3 * l .«vertex_room» → ROOM 4 ≡ refineVerdict c points depth x xp
+      pub points-short : length xp < 3 * l .«vertex_room» → ROOM 4 ≡ refineVerdict w c points depth x xp
       unfolding short given first
       points-short w = rw (lt-ltb (length xp) (3 * roomV (countsOf c (vertices points)) depth) (rw point-room at w)) at room-left
 
-      pub all-roomy : 3 * l .«vertex_room» ≤ length xp → DONE ≡ refineVerdict c points depth x xp
+      pub all-roomy : 3 * l .«vertex_room» ≤ length xp → DONE ≡ refineVerdict w c points depth x xp
       unfolding short given first
       all-roomy w = rw (le-ltb (length xp) (3 * roomV (countsOf c (vertices points)) depth) (rw point-room at w)) at room-left
 
-  module _ (e : refineVerdict c points depth x xp ≡ DONE) where
-    pub both-done : (first (cageChecks c points depth) ≡ DONE) × (first rooms ≡ DONE) × (first last ≡ DONE)
+  module _ (e : refineVerdict w c points depth x xp ≡ DONE) where
+    pub both-done : (first (refineChecks w c points depth) ≡ DONE) × (first rooms ≡ DONE) × (first last ≡ DONE)
     unfolding refineVerdict
-    both-done = let p = done-both (cageChecks c points depth) _ e in let q = done-both rooms last (p .1) in (p .0, q .0, q .1)
+    both-done = let p = done-both (refineChecks w c points depth) _ e in let q = done-both rooms last (p .1) in (p .0, q .0, q .1)
 
     -- the tables can be filled in
     pub all-refinable : {u : HalfedgeTable} → u ≡ countsOf c (vertices points) → Refinable u depth c x
     unfolding shortTables short
     all-refinable p =
-        let g = granted c (vertices points) depth (tables-done c points depth (both-done .0)) in
+        let g = granted c (vertices points) depth (tables-done w c points depth (both-done .0)) in
         let t = done-passes _ (ROOM 1) _ refl (both-done .1) in
         let v = done-passes _ (ROOM 2) _ refl (t .1) in
         let w = done-passes _ (ROOM 3) _ refl (v .1) in
@@ -120,17 +127,17 @@ module _ (c : Tables) (points : List ℤ) (depth : ℕ) (x : Tables) (xp : List 
     points-roomy = ltb-false _ _ (done-passes _ (ROOM 4) _ refl (both-done .2) .0)
 
     pub refine-done :
-        (countQuestion (countsOf c (vertices points)) depth ≡ refineCage c points depth x xp .answer)
-        × (tablesInFront (levelsEndToEnd (countsOf c (vertices points)) c depth) x ≡ refineCage c points depth x xp .lent)
-        × (inFront (endToEnd (suc depth) (levelPoints (countsOf c (vertices points)) c points)) xp ≡ refineCage c points depth x xp .points)
+        (countQuestion (countsOf c (vertices points)) depth ≡ refineCage w c points depth x xp .answer)
+        × (tablesInFront (levelsEndToEnd (countsOf c (vertices points)) c depth) x ≡ refineCage w c points depth x xp .lent)
+        × (inFront (endToEnd (suc depth) (levelPoints w (countsOf c (vertices points)) c points)) xp ≡ refineCage w c points depth x xp .points)
     unfolding refineCage said filledTables filled tablesInFront
-    refine-done = rw (e, granted c (vertices points) depth (tables-done c points depth (both-done .0)) .counts) (refl, refl, refl)
+    refine-done = rw (e, granted c (vertices points) depth (tables-done w c points depth (both-done .0)) .counts) (refl, refl, refl)
 
   -- a tells the verdict
-  module _ (a : Answer) {n : ℕ} (e : told a ≡ refineVerdict c points depth x xp) (m : n ≡ told a .number) where
-    pub told-done : n ≡ 0 → refineVerdict c points depth x xp ≡ DONE
+  module _ (a : Answer) {n : ℕ} (e : told a ≡ refineVerdict w c points depth x xp) (m : n ≡ told a .number) where
+    pub told-done : n ≡ 0 → refineVerdict w c points depth x xp ≡ DONE
     told-done z = sym e ∙ zero-done a (sym m ∙ z)
 
-    pub refine-refused : n ≢ 0 → (refusedCount (told a) ≡ refineCage c points depth x xp .answer) × (x ≡ refineCage c points depth x xp .lent) × (xp ≡ refineCage c points depth x xp .points)
+    pub refine-refused : n ≢ 0 → (refusedCount (told a) ≡ refineCage w c points depth x xp .answer) × (x ≡ refineCage w c points depth x xp .lent) × (xp ≡ refineCage w c points depth x xp .points)
     unfolding refineCage said filledTables filled
     refine-refused r = rw (← e, ne-eqb (told a .number) 0 (λ z. r (m ∙ z))) (refl, refl, refl)

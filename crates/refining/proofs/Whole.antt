@@ -1,4 +1,5 @@
--- Demand 3, of every cage that checks 1 to 8 accept, at every depth: `accepted-whole`. Assumes nothing.
+-- Demand 3, of every cage that checks 1 to 8 accept, and 14 where it applies, at every depth and by either weight: `accepted-whole`.
+-- Assumes nothing.
 use Prim.Native.Nat.{ℕ, _≤_}
 use mathlib.Core.Path.{_≡_, sym, _∙_}
 use mathlib.Core.List.{List}
@@ -11,23 +12,26 @@ use Rattle.halfedges.specs.Refusals.{DONE, POINT, first}
 use Rattle.halfedges.proofs.Checks.{first-more, given-alone, clean-done}
 use Rattle.tables.specs.Tables.{Tables, countsOf}
 use Rattle.invariance.proofs.Levels.{accepted}
-use Rattle.points.specs.Operations.{vertices, outOfRange, cageChecks}
+use Rattle.points.specs.declared.weights.Weight.{Weight}
+use Rattle.points.specs.Operations.{vertices, outOfRange, refineChecks}
 use Rattle.points.proofs.Range.{levels-in-range}
 use Rattle.refining.specs.Whole.{pointsOf, WholeInvariant}
 use Rattle.refining.proofs.Relying.{relied}
+use Rattle.refining.proofs.Weighed.{weighed}
 use Rattle.refining.proofs.Refined.{tables-done, in-range}
 
-pub accepted-whole : (c : Tables) (points : List ℤ) (depth : ℕ) → first (cageChecks c points depth) ≡ DONE → (d : ℕ) → d ≤ most-depth → WholeInvariant c points d
+pub accepted-whole : (w : Weight) (c : Tables) (points : List ℤ) (depth : ℕ) → first (refineChecks w c points depth) ≡ DONE → (d : ℕ) → d ≤ most-depth → WholeInvariant w c points d
 unfolding outOfRange
-accepted-whole c points depth e d l =
-    let done = tables-done c points depth e in
+accepted-whole w c points depth e d l =
+    let done = tables-done w c points depth e in
     let kept = accepted c (vertices points) depth done d l in
-    let range = levels-in-range (countsOf c (vertices points)) c points d (λ k m. relied c (vertices points) depth done k (omega arith)) (in-range c points depth e) d (le-refl _) in
+    let range = levels-in-range w (countsOf c (vertices points)) c points d (λ k m. relied c (vertices points) depth done k (omega arith)) (in-range w c points depth e) d (le-refl _) in
     record {
       tables = kept;
       in-range = range;
       passes =
           first-more _ _ (kept .passes)
-          ∙ sym (given-alone _ (outOfRange (pointsOf c points d)) POINT (λ k. omega arith))
-          ∙ clean-done _ (outOfRange (pointsOf c points d)) POINT (λ k m. le-ltb _ _ (range k m));
+          ∙ sym (given-alone _ (outOfRange (pointsOf w c points d)) POINT (λ k. omega arith))
+          ∙ clean-done _ (outOfRange (pointsOf w c points d)) POINT (λ k m. le-ltb _ _ (range k m));
+      weighed = weighed w c points depth e d l;
     }

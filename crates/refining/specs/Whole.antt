@@ -1,5 +1,5 @@
 -- Demand 3 of the whole level, tables and points: what the level at every depth keeps of the cage.
-use Prim.Native.Nat.{ℕ}
+use Prim.Native.Nat.{ℕ, _≤_, _<_}
 use mathlib.Core.Path.{_≡_}
 use mathlib.Core.List.{List, [], _∷_, _++_}
 use lib.IntN.{ℤ}
@@ -9,23 +9,31 @@ use Rattle.halfedges.specs.Counts.{Vs}
 use Rattle.tables.specs.Tables.{Tables, countsOf}
 use Rattle.splitting.specs.NextLevel.{level}
 use Rattle.tables.specs.Check.{rules}
-use Rattle.invariance.specs.Invariance.{Invariant}
+use Rattle.invariance.specs.Invariance.{cornersAt, OnBorder, Invariant}
+use Rattle.points.specs.declared.weights.Weight.{Weight}
+use Rattle.points.specs.declared.weights.Weight.the-variants.{Paper}
+use Rattle.points.specs.Weights.{most-valence}
 use Rattle.points.specs.NextPoints.{levelPoints}
 use Rattle.points.specs.Operations.{vertices, outOfRange, InRange}
 
 -- level d's points
-abbrev pub pointsOf : Tables → List ℤ → ℕ → List ℤ
-pointsOf c points d = levelPoints (countsOf c (vertices points)) c points d
+abbrev pub pointsOf : Weight → Tables → List ℤ → ℕ → List ℤ
+pointsOf w c points d = levelPoints w (countsOf c (vertices points)) c points d
 
--- level d of a cage
-pub record WholeInvariant (c : Tables) (points : List ℤ) (d : ℕ) : Type 0 where
+-- level d of a cage, refined by the weight chosen
+pub record WholeInvariant (w : Weight) (c : Tables) (points : List ℤ) (d : ℕ) : Type 0 where
   -- all that is said of the tables
   pub tables : Invariant (countsOf c (vertices points)) c d
   -- "each coordinate from −1,048,576 to 1,048,576"
-  pub in-range : InRange (pointsOf c points d)
+  pub in-range : InRange (pointsOf w c points d)
   -- "at every depth the tables pass the same cage rules", 3 to 8
   pub passes :
       first
       (rules (level (countsOf c (vertices points)) c d) (Vs (countsOf c (vertices points)) d)
-      ++ (givenAt (length (pointsOf c points d)) (outOfRange (pointsOf c points d)) POINT ∷ []))
+      ++ (givenAt (length (pointsOf w c points d)) (outOfRange (pointsOf w c points d)) POINT ∷ []))
       ≡ DONE
+  -- no vertex inside is without a weight: "from 2 to 32" corners where the paper's is chosen
+  pub weighed :
+      (u : ℕ) → u < Vs (countsOf c (vertices points)) d → ¬ OnBorder (level (countsOf c (vertices points)) c d) u
+      → (2 ≤ cornersAt (level (countsOf c (vertices points)) c d) u)
+      × (w ≡ Paper → cornersAt (level (countsOf c (vertices points)) c d) u ≤ most-valence)

@@ -13,21 +13,23 @@ use levels::refine::counts_of;
 use levels::refine::fill;
 use levels::refine::short_levels;
 use passes::refine::refine_points;
+use points::weights::Weight;
 
-// Refines a cage into four lent tables: all checks first, then the tables, then the points above them.
+// Refines a cage into four lent tables by the weight chosen: all checks first, then the tables, then the points above them.
 pub fn refine(
     cage_twin: &[u32],
     cage_vert: &[u32],
     cage_edge: &[u32],
     cage_points: &[i32],
     depth: usize,
+    weight: Weight,
     twin: &mut [u32],
     vert: &mut [u32],
     edge: &mut [u32],
     points: &mut [i32],
 ) -> Counted
     ensures { λ r.
-        let after = refineCage (tables (now («cage_twin» .entry)) (now («cage_vert» .entry)) (now («cage_edge» .entry)))
+        let after = refineCage weight (tables (now («cage_twin» .entry)) (now («cage_vert» .entry)) (now («cage_edge» .entry)))
         (now («cage_points» .entry)) depth (tables (now (twin .entry)) (now (vert .entry)) (now (edge .entry)))
         (now (points .entry)) in
         ⌜ (counted r ≡ after .answer) × (tables (now (twin .exit)) (now (vert .exit)) (now (edge .exit)) ≡ after .lent)
@@ -39,6 +41,7 @@ pub fn refine(
         cage_edge,
         cage_points,
         depth,
+        weight,
         twin,
         vert,
         edge,
@@ -50,28 +53,36 @@ pub fn refine(
     let of = counts_of(cage_twin, cage_points.len() / 3);
     fill(cage_twin, cage_vert, cage_edge, of, depth, twin, vert, edge);
     copy(cage_points, points);
-    refine_points(of, depth, twin, vert, edge, points);
+    refine_points(weight, of, depth, twin, vert, edge, points);
     of.count(depth)
 }
 
-// Checks 1 to 8 of any cage, and then the room of the lent tables.
+// Checks 1 to 8 of any cage, 14 by the weight chosen, and then the room of the lent tables.
 fn plan(
     cage_twin: &[u32],
     cage_vert: &[u32],
     cage_edge: &[u32],
     cage_points: &[i32],
     depth: usize,
+    weight: Weight,
     twin: &[u32],
     vert: &[u32],
     edge: &[u32],
     points: &[i32],
 ) -> Answer
     ensures { λ r.
-        ⌜ told r ≡ refineVerdict (tables (now («cage_twin» .entry)) (now («cage_vert» .entry)) (now («cage_edge» .entry)))
+        ⌜ told r ≡ refineVerdict weight (tables (now («cage_twin» .entry)) (now («cage_vert» .entry)) (now («cage_edge» .entry)))
         (now («cage_points» .entry)) depth (tables (now (twin .entry)) (now (vert .entry)) (now (edge .entry)))
         (now (points .entry)) ⌝ }
 {
-    let cage = cage::check_for_depth(cage_twin, cage_vert, cage_edge, cage_points, depth);
+    let cage = cage::check_for_refining(
+        cage_twin,
+        cage_vert,
+        cage_edge,
+        cage_points,
+        depth,
+        weight,
+    );
     if cage.number() != 0 {
         return cage;
     }

@@ -1,8 +1,8 @@
 -- A numerator and its denominator, both scaled by one number, have the same floor and round alike: `floor-scaled`, `round-scaled`.
--- A scaled sum is the sum of the scaled: `scaled-sum`. Assumes nothing.
+-- A scaled sum is the sum of the scaled: `scaled-sum`; scaled twice: `scaled-twice`. Assumes nothing.
 use Prim.Native.Nat.{ℕ, zero, suc, _+_, _*_, _/_, _<_}
-use mathlib.Core.Path.{_≡_, sym, ap, _∙_}
-use native.Mathlib.Nat.{add-zero, mul-assoc, mul-comm, mul-suc, mul-add-div, mul-div-mul-left, div-div-eq-div-mul, div-eq-of-lt}
+use mathlib.Core.Path.{_≡_, refl, sym, ap, _∙_}
+use native.Mathlib.Nat.{add-zero, mul-zero, mul-assoc, mul-comm, mul-suc, mul-add-div, mul-div-mul-left, div-div-eq-div-mul, div-eq-of-lt}
 use native.Mathlib.Omega.{arith}
 use lib.IntN.{ℤ, pos, negsuc, negℤ, _+ℤ_, _*ℤ_, zero-*ℤ, sucℤ-*ℤ}
 use Rattle.laws.proofs.Integers.{add-swap}
@@ -27,6 +27,19 @@ scaled-sum (suc c) a b =
     ∙ ap (λ z. z +ℤ (a +ℤ b)) (scaled-sum c a b)
     ∙ add-swap (pos c *ℤ a) (pos c *ℤ b) a b
     ∙ rw (← sucℤ-*ℤ (pos c) a, ← sucℤ-*ℤ (pos c) b)
+
+scaled-neg : (c : ℕ) (z : ℤ) → pos c *ℤ negℤ z ≡ negℤ (pos c *ℤ z)
+scaled-neg c (pos zero) = rw (mul-zero c)
+scaled-neg c (pos (suc n)) = refl
+scaled-neg c (negsuc n) = by (c * suc n)
+  where
+    by : (k : ℕ) → pos k ≡ negℤ (negℤ (pos k))
+    by zero = refl
+    by (suc k) = refl
+
+pub scaled-twice : (a b : ℕ) (z : ℤ) → pos a *ℤ (pos b *ℤ z) ≡ pos (a * b) *ℤ z
+scaled-twice a b (pos n) = ap pos (sym (mul-assoc a b n))
+scaled-twice a b (negsuc n) = scaled-neg a (pos (b * suc n)) ∙ ap (λ k. negℤ (pos k)) (sym (mul-assoc a b (suc n)))
 
 double : (z : ℤ) → pos 2 *ℤ z ≡ z +ℤ z
 double (pos n) = ap pos (omega arith)

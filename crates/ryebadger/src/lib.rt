@@ -3,6 +3,7 @@ ghost use mathlib.Core.Path.{_≡_};
 ghost use Rattle.halfedges.specs.Counts.{countQuestion};
 ghost use Rattle.halfedges.specs.Corners.{cornerQuestion};
 ghost use Rattle.tables.specs.Tables.{tables};
+ghost use Rattle.points.specs.Weights.{weightOf};
 ghost use Rattle.points.specs.Operations.{checkCage, refineCage};
 ghost use Rattle.building.specs.Building.{buildCage};
 ghost use Rattle.reading.specs.Reading.{readFile};
@@ -13,6 +14,7 @@ use answers;
 use building;
 use halfedges::corners;
 use halfedges::table::HalfedgeTable;
+use points::weights::Weight;
 use reading;
 use refining;
 use stl;
@@ -74,7 +76,7 @@ pub extern "C" fn ryebadger_counts(
     *answer = answers::of_counts(counted);
 }
 
-// Refining: levels 0 to the depth end to end in four lent tables.
+// Refining: levels 0 to the depth end to end in four lent tables, by the weight whose number is given.
 #[no_mangle]
 pub extern "C" fn ryebadger_refine(
     twin: &[u32],
@@ -82,6 +84,7 @@ pub extern "C" fn ryebadger_refine(
     edge: &[u32],
     points: &[i32],
     depth: usize,
+    weight: u32,
     twins: &mut [u32],
     verts: &mut [u32],
     edges: &mut [u32],
@@ -89,13 +92,25 @@ pub extern "C" fn ryebadger_refine(
     answer: &mut [u32; 25],
 )
     ensures { λ _.
-        let after = refineCage (tables (now (twin .entry)) (now (vert .entry)) (now (edge .entry))) (now (points .entry)) depth
+        let after = refineCage (weightOf weight) (tables (now (twin .entry)) (now (vert .entry)) (now (edge .entry))) (now (points .entry)) depth
         (tables (now (twins .entry)) (now (verts .entry)) (now (edges .entry))) (now (places .entry)) in
         ⌜ (now (answer .exit) ≡ levelCells (after .answer))
         × (tables (now (twins .exit)) (now (verts .exit)) (now (edges .exit)) ≡ after .lent)
         × (now (places .exit) ≡ after .points) ⌝ }
 {
-    let counted = refining::refine(twin, vert, edge, points, depth, twins, verts, edges, places);
+    let chosen = Weight::numbered(weight);
+    let counted = refining::refine(
+        twin,
+        vert,
+        edge,
+        points,
+        depth,
+        chosen,
+        twins,
+        verts,
+        edges,
+        places,
+    );
     *answer = answers::of_counts(counted);
 }
 

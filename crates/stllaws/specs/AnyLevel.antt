@@ -11,6 +11,7 @@ use Rattle.halfedges.specs.Refusals.{DONE, first}
 use Rattle.halfedges.specs.Counts.{Hs, Vs}
 use Rattle.tables.specs.Tables.{Tables, countsOf}
 use Rattle.splitting.specs.NextLevel.{level}
+use Rattle.points.specs.declared.weights.Weight.{Weight}
 use Rattle.points.specs.NextPoints.{levelPoints}
 use Rattle.points.specs.Operations.{vertices, refineCage}
 use Rattle.stl.specs.File.{stlFile}
@@ -24,17 +25,17 @@ abbrev pub ownPlaces : HalfedgeTable → ℕ → List ℤ → List ℤ
 ownPlaces t d points = take (3 * Vs t d) (drop (3 * sum d (Vs t)) points)
 
 -- level d of a cage that was refined into lent tables
-pub record Writable (c : Tables) (points : List ℤ) (depth : ℕ) (lent : Tables) (lentPoints : List ℤ) (d : ℕ) : Type 0 where
+pub record Writable (w : Weight) (c : Tables) (points : List ℤ) (depth : ℕ) (lent : Tables) (lentPoints : List ℤ) (d : ℕ) : Type 0 where
   -- its own parts are its VERT and its points
   pub corners :
-      ownCorners (countsOf c (vertices points)) d (refineCage c points depth lent lentPoints .lent .vert)
+      ownCorners (countsOf c (vertices points)) d (refineCage w c points depth lent lentPoints .lent .vert)
       ≡ level (countsOf c (vertices points)) c d .vert
   pub places :
-      ownPlaces (countsOf c (vertices points)) d (refineCage c points depth lent lentPoints .points)
-      ≡ levelPoints (countsOf c (vertices points)) c points d
+      ownPlaces (countsOf c (vertices points)) d (refineCage w c points depth lent lentPoints .points)
+      ≡ levelPoints w (countsOf c (vertices points)) c points d
   -- none of 1, 2, 4 and 8 is given on them
-  pub passes : first (stlChecks (level (countsOf c (vertices points)) c d .vert) (levelPoints (countsOf c (vertices points)) c points d)) ≡ DONE
+  pub passes : first (stlChecks (level (countsOf c (vertices points)) c d .vert) (levelPoints w (countsOf c (vertices points)) c points d)) ≡ DONE
   -- the room that they need
   pub room :
-      length (stlFile (level (countsOf c (vertices points)) c d .vert) (levelPoints (countsOf c (vertices points)) c points d))
+      length (stlFile (level (countsOf c (vertices points)) c d .vert) (levelPoints w (countsOf c (vertices points)) c points d))
       ≡ 84 + 50 * (4 ^ d * F (length (c .twin)))

@@ -131,7 +131,7 @@ fn refusal(twin: &[u32], vert: &[u32], edge: &[u32], points: &[i32], file: &[u8]
         ⌜ told r ≡ writeVerdict (tables (now (twin .entry)) (now (vert .entry)) (now (edge .entry))) (now (points .entry))
         (now (file .entry)) ⌝ }
 {
-    let answer = cage::check_for_depth(twin, vert, edge, points, 0);
+    let answer = cage::verdict(twin, vert, edge, points);
     if answer.number() != 0 {
         return answer;
     }

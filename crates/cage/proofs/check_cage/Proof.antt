@@ -8,8 +8,8 @@ use Rattle.points.specs.Operations.{vertices, checkCage}
 use Rattle.cage.proofs.check_cage.Statement.{statement}
 use Rattle.cage.proofs.check_cage.Tie as tie
 
-check-for-depth-requires : tie.Need-check-for-depth-requires
-check-for-depth-requires c κs = search needs
+verdict-requires : tie.Need-verdict-requires
+verdict-requires c κs = search needs
 
 answered-requires : tie.Need-answered-requires
 answered-requires c κs = search needs
@@ -19,7 +19,7 @@ unfolding checkCage
 returns c =
     let s = c .before .before .before .before .before in
     c .answered .ensures
-    ∙ ap (λ v. said v (returned (s .args .twin .now) (vertices (s .args .points .now))) (replicate 5 0)) (c .before .check-for-depth .ensures)
+    ∙ ap (λ v. said v (returned (s .args .twin .now) (vertices (s .args .points .now))) (replicate 5 0)) (c .before .verdict .ensures)
 
 pub check-cage-spec : {M : Type 1} → statement M
-check-cage-spec = tie.close (tie.spec check-for-depth-requires answered-requires returns)
+check-cage-spec = tie.close (tie.spec verdict-requires answered-requires returns)

@@ -13,6 +13,7 @@ use Rattle.halfedges.specs.Counts.{finer, countsAt, roomV}
 use Rattle.tables.specs.Tables.{Tables, tables}
 use Rattle.splitting.specs.NextLevel.{level}
 use Rattle.levels.specs.Refining.{levelsEndToEnd}
+use Rattle.points.specs.declared.weights.Weight.{Weight}
 use Rattle.points.specs.NextPoints.{corners, nextPoints, levelPoints}
 use Rattle.points.specs.Internal.Relied.{Relied, Known, Fourfold}
 use Rattle.points.specs.Operations.{InRange}
@@ -27,8 +28,8 @@ abbrev pub nextEnd : HalfedgeTable → ℕ → ℕ
 nextEnd t at = at + 3 * t .vertices + 3 * (t .vertices + t .edges)
 
 -- the table with the next level's points after the level's, and everything else as it was
-unfoldable pub withNext : HalfedgeTable → Tables → ℕ → List ℤ → List ℤ
-withNext t c at points = take (at + 3 * t .vertices) points ++ (nextPoints t c (pointsAt t at points) ++ drop (nextEnd t at) points)
+unfoldable pub withNext : Weight → HalfedgeTable → Tables → ℕ → List ℤ → List ℤ
+withNext w t c at points = take (at + 3 * t .vertices) points ++ (nextPoints w t c (pointsAt t at points) ++ drop (nextEnd t at) points)
 
 -- what the next level's points take: the tables' promise, known corners, points in range and room; and no halfedge's number is the marker
 pub record Ready (own : List ℕ) (before : ℕ) (t : HalfedgeTable) (c : Tables) (at : ℕ) (points : List ℤ) : Type 0 where
@@ -52,8 +53,8 @@ tablesAt t start lent =
     (take (t .halfedges) (drop start (lent .edge)))
 
 -- a level's next one, of those that stand in the lent tables
-abbrev pub withNextAt : Level → Tables → List ℤ → List ℤ
-withNextAt x lent points = withNext (x .counts) (tablesAt (x .counts) (x .start) lent) (x .at) points
+abbrev pub withNextAt : Weight → Level → Tables → List ℤ → List ℤ
+withNextAt w x lent points = withNext w (x .counts) (tablesAt (x .counts) (x .start) lent) (x .at) points
 
 -- what that takes: the level's halfedges lie in each table
 pub record ReadyLevel (own : List ℕ) (x : Level) (lent : Tables) (points : List ℤ) : Type 0 where
@@ -93,12 +94,12 @@ abbrev pub cageCorners : HalfedgeTable → Tables → List ℕ
 cageCorners t lent = tabulate (t .vertices) (λ u. length (corners (cageOf t lent .vert) u))
 
 -- the levels' points end to end, of a cage whose points the table starts with
-abbrev pub pointLevels : HalfedgeTable → Tables → List ℤ → ℕ → List ℤ
-pointLevels t lent points n = endToEnd n (levelPoints t (cageOf t lent) (take (3 * t .vertices) points))
+abbrev pub pointLevels : Weight → HalfedgeTable → Tables → List ℤ → ℕ → List ℤ
+pointLevels w t lent points n = endToEnd n (levelPoints w t (cageOf t lent) (take (3 * t .vertices) points))
 
 -- the table with levels 0 to the depth; "What lies past that is untouched"
-unfoldable pub withLevels : HalfedgeTable → ℕ → Tables → List ℤ → List ℤ
-withLevels t depth lent points = pointLevels t lent points (suc depth) ++ drop (length (pointLevels t lent points (suc depth))) points
+unfoldable pub withLevels : Weight → HalfedgeTable → ℕ → Tables → List ℤ → List ℤ
+withLevels w t depth lent points = pointLevels w t lent points (suc depth) ++ drop (length (pointLevels w t lent points (suc depth))) points
 
 -- what that takes: within the limits, three tables that hold the levels end to end, each with its promise, a cage in range, and room
 pub record ReadyLevels (t : HalfedgeTable) (depth : ℕ) (lent : Tables) (points : List ℤ) : Type 0 where

@@ -1,8 +1,8 @@
 -- The point rules by the parts in which the code works them out.
-use Prim.Native.Nat.{ℕ, _*_, _^_, _≤_}
+use Prim.Native.Nat.{ℕ, _*_, _^_, _≤_, _<_}
 use mathlib.Core.Bool.{cond}
 use lib.IntN.{ℤ, pos, natAbs, _+ℤ_, _-ℤ_, _*ℤ_}
-use lib.Signed.{leZ, _<ℤ_}
+use lib.Signed.{leZ}
 use Rattle.rounding.specs.Rounding.{round}
 use Rattle.points.specs.Operations.{most-coordinate}
 use Rattle.points.specs.Internal.Relied.{most-corners}
@@ -24,8 +24,8 @@ unfoldable pub met : ℤ → ℤ → ℤ → ℤ
 met now x a = cond (leZ now (pos most-coordinate)) (pos 6 *ℤ x +ℤ a +ℤ pos mark) (round (now -ℤ pos mark +ℤ a) 8)
 
 -- what V.3 asks of the number of corners, a place and the sum over the spokes
-pub record AsksInside (corners vertex sum : ℤ) : Type 0 where
-  pub some : pos 0 <ℤ corners
-  pub few : natAbs corners ≤ most-corners
+pub record AsksInside (corners : ℕ) (vertex sum : ℤ) : Type 0 where
+  pub some : 0 < corners
+  pub few : corners ≤ most-corners
   pub place : natAbs vertex ≤ most-coordinate
-  pub small : natAbs sum ≤ most-coordinate * natAbs corners
+  pub small : natAbs sum ≤ most-coordinate * corners

@@ -13,8 +13,8 @@ use Rattle.refining.proofs.refine.Tie as tie
 abbrev start : tie.Else1 → tie.Start
 start i = i .before .before .before .before .before .before .before .before .before .before .before .before .before
 
-done : (i : tie.Else1) → let s = start i .args in refineVerdict (tables (s .cage-twin .now) (s .cage-vert .now) (s .cage-edge .now)) (s .cage-points .now) (s .depth) (tables (s .twin .now) (s .vert .now) (s .edge .now)) (s .points .now) ≡ DONE
-done i = let p = i .before .before in told-done _ _ _ _ _ (p .plan .result) (p .plan .ensures) (i .before .number .ensures) (i .if1 .left)
+done : (i : tie.Else1) → let s = start i .args in refineVerdict (s .weight) (tables (s .cage-twin .now) (s .cage-vert .now) (s .cage-edge .now)) (s .cage-points .now) (s .depth) (tables (s .twin .now) (s .vert .now) (s .edge .now)) (s .points .now) ≡ DONE
+done i = let p = i .before .before in told-done _ _ _ _ _ _ (p .plan .result) (p .plan .ensures) (i .before .number .ensures) (i .if1 .left)
 
 plan-requires : tie.Need-plan-requires
 plan-requires c κs = search needs
@@ -40,23 +40,23 @@ same-length-4 c = search needs
 returns : tie.Need-returns
 returns c =
     let p = c .before .before .before in
-    let r = refine-refused _ _ _ _ _ (p .plan .result) (p .plan .ensures) (c .before .before .number .ensures) (c .before .if1 .taken) in
+    let r = refine-refused _ _ _ _ _ _ (p .plan .result) (p .plan .ensures) (c .before .before .number .ensures) (c .before .if1 .taken) in
     (c .refused .ensures ∙ r .0, r .1, r .2)
 
 counts-of-requires : tie.Need-counts-of-requires
 counts-of-requires c κs = search needs
 
 fill-requires : tie.Need-fill-requires
-fill-requires c κs = let k = c .before .before .before in all-refinable _ _ _ _ _ (done (k .before)) (k .counts-of .ensures)
+fill-requires c κs = let k = c .before .before .before in all-refinable _ _ _ _ _ _ (done (k .before)) (k .counts-of .ensures)
 
 copy-requires : tie.Need-copy-requires
-copy-requires c κs = points-fit _ _ _ _ _ (done (c .before .before .before .before .before .before .before .before .before .before .before .before))
+copy-requires c κs = points-fit _ _ _ _ _ _ (done (c .before .before .before .before .before .before .before .before .before .before .before .before))
 
 refine-points-requires : tie.Need-refine-points-requires
 refine-points-requires c κs =
     let f = c .before .before .before .before .before .before .before .before .before .before .before .before .before in
     let k = f .before .before .before .before in
-    readied _ _ _ _ _ (done (k .before)) (k .counts-of .ensures) (f .fill .ensures) (c .before .before .before .before .before .copy .ensures)
+    readied _ _ _ _ _ _ (done (k .before)) (k .counts-of .ensures) (f .fill .ensures) (c .before .before .before .before .before .copy .ensures)
 
 count-requires : tie.Need-count-requires
 count-requires c κs = search needs
@@ -77,7 +77,7 @@ returns-2 : tie.Need-returns-2
 returns-2 c =
     let f = c .before .before .before .before .before .before .before .before .before .before .before .before .before .before .before .before in
     let k = f .before .before .before .before in
-    outcome _ _ _ _ _ (done (k .before)) (k .counts-of .ensures) (f .fill .ensures) (c .before .before .before .before .before .before .before .before .copy .ensures) (c .count .ensures) (c .before .before .refine-points .ensures)
+    outcome _ _ _ _ _ _ (done (k .before)) (k .counts-of .ensures) (f .fill .ensures) (c .before .before .before .before .before .before .before .before .copy .ensures) (c .count .ensures) (c .before .before .refine-points .ensures)
 
 pub refine-spec : {M : Type 1} → statement M
 refine-spec =

@@ -6,14 +6,14 @@ use Rattle.writing.proofs.WriteChecks.{write-refused, checked-fits, wri
 use Rattle.writing.proofs.refusal.Statement.{statement}
 use Rattle.writing.proofs.refusal.Tie as tie
 
-check-for-depth-requires : tie.Need-check-for-depth-requires
-check-for-depth-requires c κs = search needs
+verdict-requires : tie.Need-verdict-requires
+verdict-requires c κs = search needs
 
 number-requires : tie.Need-number-requires
 number-requires c κs = search needs
 
 returns : tie.Need-returns
-returns c = write-refused _ _ _ (c .before .before .check-for-depth .result) (c .before .number .ensures) (c .before .before .check-for-depth .ensures) (c .if1 .taken)
+returns c = write-refused _ _ _ (c .before .before .verdict .result) (c .before .number .ensures) (c .before .before .verdict .ensures) (c .if1 .taken)
 
 mul-if2 : tie.Need-mul-if2
 mul-if2 c = search needs
@@ -27,24 +27,24 @@ mul-if2-2 c = search needs
 add-if2-2 : tie.Need-add-if2-2
 add-if2-2 c =
     let s = c .before .before .before .before .before .before .before in
-    let f = checked-fits (tables (s .args .twin .now) (s .args .vert .now) (s .args .edge .now)) (s .args .points .now) (s .args .file .now) (c .before .before .check-for-depth .result) (c .before .number .ensures) (c .before .before .check-for-depth .ensures) (c .if1 .left) in
+    let f = checked-fits (tables (s .args .twin .now) (s .args .vert .now) (s .args .edge .now)) (s .args .points .now) (s .args .file .now) (c .before .before .verdict .result) (c .before .number .ensures) (c .before .before .verdict .ensures) (c .if1 .left) in
     omega (arith, f .few-halfedges, f .few-vertices)
 
 returns-2 : tie.Need-returns-2
 returns-2 c =
     let i = c .before in
-    write-short _ _ _ (i .before .before .check-for-depth .result) (i .before .number .ensures) (i .before .before .check-for-depth .ensures) (i .if1 .left) (c .if2 .taken)
+    write-short _ _ _ (i .before .before .verdict .result) (i .before .number .ensures) (i .before .before .verdict .ensures) (i .if1 .left) (c .if2 .taken)
 
 returns-3 : tie.Need-returns-3
 returns-3 c =
     let i = c .before in
-    write-roomy _ _ _ (i .before .before .check-for-depth .result) (i .before .number .ensures) (i .before .before .check-for-depth .ensures) (i .if1 .left) (c .if2 .left)
+    write-roomy _ _ _ (i .before .before .verdict .result) (i .before .number .ensures) (i .before .before .verdict .ensures) (i .if1 .left) (c .if2 .left)
 
 pub refusal-spec : {M : Type 1} → statement M
 refusal-spec =
     tie.close
     (tie.spec
-    check-for-depth-requires
+    verdict-requires
     number-requires
     returns
     mul-if2

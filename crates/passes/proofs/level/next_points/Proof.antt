@@ -34,18 +34,18 @@ module _ (s : tie.Start) where
 abbrev start : tie.After-clear-sums → tie.Start
 start a = a .before .before .before .before .before .before
 
-is-cleared : (a : tie.After-clear-sums) → a .clear-sums .last .0 ≡ after-clear (own (start a)) (start a .args .level .before) (start a .args .level .counts) (c· (start a)) (l (start a)) (start a .pre)
+is-cleared : (a : tie.After-clear-sums) → a .clear-sums .last .0 ≡ after-clear (start a .args .weight) (own (start a)) (start a .args .level .before) (start a .args .level .counts) (c· (start a)) (l (start a)) (start a .pre)
 is-cleared a = a .clear-sums .ensures
 
-is-gathered : (a : tie.After-gather) → let s = start (a .before .before .before) in a .gather .last .1 .0 ≡ after-gather (own s) (s .args .level .before) (s .args .level .counts) (c· s) (l s) (s .pre)
+is-gathered : (a : tie.After-gather) → let s = start (a .before .before .before) in a .gather .last .1 .0 ≡ after-gather (s .args .weight) (own s) (s .args .level .before) (s .args .level .counts) (c· s) (l s) (s .pre)
 is-gathered a =
     let s = start (a .before .before .before) in
     a .gather .ensures ∙ ap (gathered (s .args .vert .now) (n s) (s .args .level .before)) (is-cleared (a .before .before .before))
 
-is-settled : (a : tie.After-settle-vertices) → let s = start (a .before .before .before .before .before .before) in a .settle-vertices .last .1 .0 ≡ after-settle (own s) (s .args .level .before) (s .args .level .counts) (c· s) (l s) (s .pre)
+is-settled : (a : tie.After-settle-vertices) → let s = start (a .before .before .before .before .before .before) in a .settle-vertices .last .1 .1 .0 ≡ after-settle (s .args .weight) (own s) (s .args .level .before) (s .args .level .counts) (c· s) (l s) (s .pre)
 is-settled a =
     let s = start (a .before .before .before .before .before .before) in
-    a .settle-vertices .ensures ∙ ap (steps (3 * n s) (settle (own s) (n s))) (is-gathered (a .before .before .before))
+    a .settle-vertices .ensures ∙ ap (steps (3 * n s) (settle (s .args .weight) (own s) (n s))) (is-gathered (a .before .before .before))
 
 clear-sums-requires : tie.Need-clear-sums-requires
 clear-sums-requires c κs = search needs
@@ -54,19 +54,19 @@ gather-requires : tie.Need-gather-requires
 gather-requires c κs =
     let a = c .before .before in
     let s = start a in
-    subst (λ q. Gathers (s .args .vert .now) (n s) q × (s .args .level .before ≢ 0 → Fourfold (s .args .level .before) (s .args .vert .now))) (sym (is-cleared a)) (gathers _ _ _ (c· s) (l s) (s .pre))
+    subst (λ q. Gathers (s .args .vert .now) (n s) q × (s .args .level .before ≢ 0 → Fourfold (s .args .level .before) (s .args .vert .now))) (sym (is-cleared a)) (gathers (s .args .weight) _ _ _ (c· s) (l s) (s .pre))
 
 settle-vertices-requires : tie.Need-settle-vertices-requires
 settle-vertices-requires c κs =
     let a = c .before .before in
     let s = start (a .before .before .before) in
-    subst (λ q. (length (own s) ≤ n s) × (6 * n s ≤ length q) × ((i : ℕ) → i < 3 * n s → SettlesAt (own s) (n s) i q)) (sym (is-gathered a)) (settles _ _ _ (c· s) (l s) (s .pre))
+    subst (λ q. (length (own s) ≤ n s) × (6 * n s ≤ length q) × ((i : ℕ) → i < 3 * n s → SettlesAt (own s) (n s) i q)) (sym (is-gathered a)) (settles (s .args .weight) _ _ _ (c· s) (l s) (s .pre))
 
 write-edges-requires : tie.Need-write-edges-requires
 write-edges-requires c κs =
     let a = c .before .before in
     let s = start (a .before .before .before .before .before .before) in
-    subst (λ q. Edged (s .args .twin .now) (s .args .vert .now) (s .args .edge .now) (n s) q × ((h : ℕ) → h < length (s .args .vert .now) → Started (s .args .twin .now) (s .args .edge .now) (n s) h (steps h (putEdge (s .args .twin .now) (s .args .vert .now) (s .args .edge .now) (n s) q) q))) (sym (is-settled a)) (writes _ _ _ (c· s) (l s) (s .pre))
+    subst (λ q. Edged (s .args .twin .now) (s .args .vert .now) (s .args .edge .now) (n s) q × ((h : ℕ) → h < length (s .args .vert .now) → Started (s .args .twin .now) (s .args .edge .now) (n s) h (steps h (putEdge (s .args .twin .now) (s .args .vert .now) (s .args .edge .now) (n s) q) q))) (sym (is-settled a)) (writes (s .args .weight) _ _ _ (c· s) (l s) (s .pre))
 
 same-length : tie.Need-same-length
 same-length c = search needs
@@ -77,7 +77,7 @@ returns c =
     let s = start (a .before .before .before .before .before .before) in
     c .before .write-edges .ensures
     ∙ ap (λ q. steps (length (s .args .vert .now)) (putEdge (s .args .twin .now) (s .args .vert .now) (s .args .edge .now) (n s) q) q) (is-settled a)
-    ∙ passed _ _ _ (c· s) (l s) (s .pre)
+    ∙ passed (s .args .weight) _ _ _ (c· s) (l s) (s .pre)
 
 pub next-points-spec : {M : Type 1} → statement M
 next-points-spec =

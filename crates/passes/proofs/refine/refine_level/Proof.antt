@@ -80,7 +80,7 @@ returns c =
     let x = s .args .level in
     let l = s .args .points .now in
     ap (putMid (x .at) (length l - x .at) l) (rw (span (x .start) (x .counts .halfedges)) at (c .before .next-points .ensures))
-    ∙ part-back (x .counts) (tablesAt (x .counts) (x .start) (tables (s .args .twin .now) (s .args .vert .now) (s .args .edge .now))) (x .at) l
+    ∙ part-back (x .counts) (tablesAt (x .counts) (x .start) (tables (s .args .twin .now) (s .args .vert .now) (s .args .edge .now))) (x .at) l (s .args .weight)
 
 pub refine-level-spec : {M : Type 1} → statement M
 refine-level-spec =

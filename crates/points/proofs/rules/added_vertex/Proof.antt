@@ -42,7 +42,7 @@ returns : tie.Need-returns
 returns c =
     let s = c .before in
     let e = simp (toZ-ofZ (s .fits .vertex), toZ-ofZ (s .fits .sum), toZ-ofZ (ten-fits s), toZ-ofZ (fits s), toZ-ofZ (wide s)) at (c .rounded .ensures) in
-    simp (back-of w32 (c .rounded .result) (c .rounded .ok)) (e ∙ sym (V3-six (s .args .vertex) (s .args .sum)))
+    λ w. simp (back-of w32 (c .rounded .result) (c .rounded .ok)) (e ∙ sym (V3-six w (s .args .vertex) (s .args .sum)))
 
 pub added-vertex-spec : {M : Type 1} → statement M
 added-vertex-spec = tie.close (tie.spec mul-numerator add-numerator cast-numerator rounded-requires returns)

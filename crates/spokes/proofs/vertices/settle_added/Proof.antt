@@ -43,10 +43,10 @@ returns : tie.Need-returns
 returns c =
     let b = c .before in
     let s = b .before .before in
-    ap (set (s .args .points .now) (s .args .start + s .args .i))
+    λ w. ap (set (s .args .points .now) (s .args .start + s .args .i))
     (back-of w32 _ (c .added-vertex .ok)
-    ∙ c .added-vertex .ensures
-    ∙ ap₂ (V3 6) (back-of w32 _ (b .before .place .given)) (back-of w32 _ (b .sum .given)))
+    ∙ c .added-vertex .ensures w
+    ∙ ap₂ (V3 w 6) (back-of w32 _ (b .before .place .given)) (back-of w32 _ (b .sum .given)))
 
 pub settle-added-spec : {M : Type 1} → statement M
 settle-added-spec =
