@@ -1,11 +1,14 @@
-//! Document 01, "Why a cage is sent back": the cage check, refusals 1 to 8.
+//! Document 01, "Why a cage is sent back": the cage check, refusals 1 to 8; and
+//! the checks of refining, with refusal 14 of document 02, §4 in its place.
 
 use std::collections::{HashMap, HashSet};
 
 use crate::cage::{next, Cage, COORDINATE_LIMIT};
 use crate::fan;
-use crate::refusal::{refuse_if, Refusal, EDGE, FAN, POINT, SHAPE, TWIN, UNUSED, VERTEX};
+use crate::refusal::{refuse_if, Refusal, EDGE, FAN, POINT, SHAPE, TWIN, UNUSED, VALENCE, VERTEX};
 use crate::size::{makes_triangles, refuse_above_limits};
+use crate::valence::lowest_inner_vertex_of_too_many_corners;
+use crate::weight::Weight;
 
 /// H, E, F, V and B of an accepted cage.
 #[derive(Clone, Copy, Debug, PartialEq, Eq)]
@@ -17,24 +20,38 @@ pub struct CageCounts {
     pub borders: u64,
 }
 
-/// The cage check. It has no depth.
+/// The cage check: refusals 1 to 8. It has no depth and no weight.
 pub fn check(cage: &Cage) -> Result<CageCounts, Refusal> {
-    check_for_depth(cage, 0)
-}
-
-/// Checks 1 to 8 for an operation that has a depth.
-pub(crate) fn check_for_depth(cage: &Cage, depth: u64) -> Result<CageCounts, Refusal> {
     refuse_bad_shape(cage)?;
-    let (h, v) = (cage.halfedge_count(), cage.vertex_count());
-    refuse_above_limits(h as u64, v as u64, depth)?;
-    refuse_bad_cells(cage)?;
+    refuse_bad_size(cage, 0)?;
+    refuse_where_broken(cage, &TABLE_RULES)?;
+    refuse_where_broken(cage, &[POINT_RULE])?;
     Ok(counts_of(cage))
 }
 
 /// The cage check without refusal 2, for levels larger than any cage.
 pub fn check_any_size(cage: &Cage) -> Result<CageCounts, Refusal> {
     refuse_bad_shape(cage)?;
-    refuse_bad_cells(cage)?;
+    refuse_where_broken(cage, &TABLE_RULES)?;
+    refuse_where_broken(cage, &[POINT_RULE])?;
+    Ok(counts_of(cage))
+}
+
+/// The checks of refining before there is a question of room: the cage check's,
+/// with the depth in 2, and with the paper's weight 14 "after 7 and before 8",
+/// "at any depth".
+pub(crate) fn check_for_refining(
+    cage: &Cage,
+    depth: u64,
+    weight: Weight,
+) -> Result<CageCounts, Refusal> {
+    refuse_bad_shape(cage)?;
+    refuse_bad_size(cage, depth)?;
+    refuse_where_broken(cage, &TABLE_RULES)?;
+    if weight == Weight::Paper {
+        refuse_where_broken(cage, &[VALENCE_RULE])?;
+    }
+    refuse_where_broken(cage, &[POINT_RULE])?;
     Ok(counts_of(cage))
 }
 
@@ -58,24 +75,36 @@ fn refuse_bad_shape(cage: &Cage) -> Result<(), Refusal> {
     refuse_if(!good, SHAPE, 0)
 }
 
-/// One of the rules 3 to 8: the lowest place where it is broken. A rule may
-/// rely on all rules before it.
-type Rule = fn(&Cage) -> Option<usize>;
+/// Refusal 2. An operation without a depth asks with depth 0.
+fn refuse_bad_size(cage: &Cage, depth: u64) -> Result<(), Refusal> {
+    let (h, v) = (cage.halfedge_count(), cage.vertex_count());
+    refuse_above_limits(h as u64, v as u64, depth)
+}
 
-const RULES: [(u32, Rule); 6] = [
+/// The number of a refusal, and the lowest place where its rule is broken. A
+/// rule may rely on the shape and on all rules before it.
+type Rule = (u32, fn(&Cage) -> Option<usize>);
+
+/// Refusals 3 to 7.
+const TABLE_RULES: [Rule; 5] = [
     (TWIN, lowest_bad_twin),
     (VERTEX, lowest_bad_vertex),
     (UNUSED, lowest_unused_vertex),
     (EDGE, lowest_bad_edge),
     (FAN, fan::lowest_vertex_without_one_fan),
-    (POINT, |cage| lowest_bad_coordinate(&cage.points)),
 ];
 
-/// Refusals 3 to 8, for tables of good shape.
-fn refuse_bad_cells(cage: &Cage) -> Result<(), Refusal> {
-    for (number, lowest_place) in RULES {
+/// Refusal 14.
+const VALENCE_RULE: Rule = (VALENCE, lowest_inner_vertex_of_too_many_corners);
+
+/// Refusal 8.
+const POINT_RULE: Rule = (POINT, |cage| lowest_bad_coordinate(&cage.points));
+
+/// Refuses by the first of these rules that is broken.
+fn refuse_where_broken(cage: &Cage, rules: &[Rule]) -> Result<(), Refusal> {
+    for (number, lowest_place) in rules {
         if let Some(place) = lowest_place(cage) {
-            return Err(Refusal::new(number, place));
+            return Err(Refusal::new(*number, place));
         }
     }
     Ok(())

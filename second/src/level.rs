@@ -2,9 +2,11 @@
 
 use crate::cage::{next, previous, Cage, MARKER};
 use crate::points::next_points;
+use crate::weight::Weight;
 
-/// The level after one that keeps the rules 3 to 8.
-pub(crate) fn next_level(level: &Cage) -> Cage {
+/// The level after one that keeps the rules 3 to 8, and with the paper's weight
+/// 14. The weight has a part in the points alone.
+pub(crate) fn next_level(level: &Cage, weight: Weight) -> Cage {
     let old = OldLevel {
         level,
         halfedge_count: level.halfedge_count(),
@@ -14,7 +16,7 @@ pub(crate) fn next_level(level: &Cage) -> Cage {
     let corner_triangles = level.halfedges().flat_map(|h| old.corner_triangle(h));
     let middle_halfedges = level.halfedges().map(|h| old.middle_halfedge(h));
     let mut new_level = Cage {
-        points: next_points(level),
+        points: next_points(level, weight),
         ..Cage::default()
     };
     for halfedge in corner_triangles.chain(middle_halfedges) {

@@ -1,7 +1,7 @@
 //! The command line of the second program. The level lister of document 01
 //! is `second list`, the count question `second counts`, the disk program of
-//! document 02, §2 `second stl`; the other commands are for comparing and
-//! trying.
+//! document 02, §2 `second stl`, the entries of its §4 `second weights`; the
+//! other commands are for comparing and trying.
 
 use std::io::{self, Read, Write};
 use std::process::ExitCode;
@@ -13,9 +13,10 @@ use second::file::write_cage_file;
 use second::lister::list_levels;
 use second::stl::level_0_stl;
 use second::suite::{cage_named, suite, SuiteCage};
+use second::weight::{paper_part, VALENCES};
 
-const USAGE: &str =
-    "usage: second list | second counts | second stl | second cage NAME | second suite";
+const USAGE: &str = "usage: second list | second counts | second stl | second weights \
+     | second cage NAME | second suite";
 
 fn main() -> ExitCode {
     let words: Option<Vec<String>> = std::env::args_os()
@@ -59,6 +60,7 @@ fn output(words: &[&str]) -> Result<Vec<u8>, Trouble> {
     let text = match words {
         ["list"] => list_levels(&standard_input()?),
         ["counts"] => counts_of(&standard_input()?)?,
+        ["weights"] => VALENCES.filter_map(weight_line).collect(),
         ["suite"] => suite().iter().map(suite_line).collect(),
         ["stl"] => return Ok(stl_of(&standard_input()?)),
         ["cage", name] => return cage_file(name),
@@ -89,6 +91,11 @@ fn counts_of(question: &[u8]) -> Result<String, Trouble> {
 /// The STL of level 0 of this cage file, or the refusal's line.
 fn stl_of(file: &[u8]) -> Vec<u8> {
     level_0_stl(file).unwrap_or_else(|refusal| refusal.line().into_bytes())
+}
+
+/// A valence and its entry.
+fn weight_line(valence: usize) -> Option<String> {
+    paper_part(valence).map(|part| format!("{valence} {part}\n"))
 }
 
 /// The name, the lengths of the four tables, and the cage check's answer.

@@ -1,13 +1,17 @@
-//! Document 01, "Points": where the vertices of the new level lie.
+//! Document 01, "Points": where the vertices of the new level lie; document 02,
+//! §4, "The weight from the paper": inner vertices with the weight chosen.
 
 use std::collections::HashMap;
 
 use crate::cage::Cage;
+use crate::weight::{paper_part, Weight, WHOLE};
 
-/// The points of the level after one that keeps the rules 3 to 8: first those
-/// of the old vertices, then one for each old edge.
-pub(crate) fn next_points(level: &Cage) -> Vec<i32> {
-    let blends = vertex_blends(level).into_iter().chain(edge_blends(level));
+/// The points of the level after one that keeps the rules 3 to 8, and with the
+/// paper's weight 14: first those of the old vertices, then one for each old
+/// edge.
+pub(crate) fn next_points(level: &Cage, weight: Weight) -> Vec<i32> {
+    let vertices = vertex_blends(level, weight).into_iter();
+    let blends = vertices.chain(edge_blends(level));
     blends.flat_map(|blend| blend.point(level)).collect()
 }
 
@@ -37,12 +41,12 @@ fn round_halves_up(numerator: i128, denominator: i128) -> i128 {
 }
 
 /// The rule of each old vertex, by vertex number.
-fn vertex_blends(level: &Cage) -> Vec<Blend> {
+fn vertex_blends(level: &Cage, weight: Weight) -> Vec<Blend> {
     let border_neighbours = border_neighbours(level);
     let spokes = spokes(level);
     let blend = |(vertex, far_ends): (usize, &Vec<usize>)| match border_neighbours.get(&vertex) {
         Some(neighbours) => border_vertex(vertex, neighbours),
-        None => inner_vertex(vertex, far_ends),
+        None => inner_vertex(vertex, far_ends, weight),
     };
     spokes.iter().enumerate().map(blend).collect()
 }
@@ -87,12 +91,21 @@ fn border_vertex(vertex: usize, neighbours: &[usize]) -> Blend {
     }
 }
 
-fn inner_vertex(vertex: usize, far_ends: &[usize]) -> Blend {
+/// Short: (5n·v+3s)/(8n). The paper's: ((2^24−n·w)·v + w·s)/2^24.
+fn inner_vertex(vertex: usize, far_ends: &[usize], weight: Weight) -> Blend {
     let n = far_ends.len() as i128;
-    let spokes = far_ends.iter().map(|&far_end| (3, far_end));
+    let (own, spoke, denominator) = match weight {
+        Weight::Short => (5 * n, 3, 8 * n),
+        Weight::Paper => {
+            let part = paper_part(far_ends.len()).expect("a valence that passed 14");
+            let (whole, part) = (i128::from(WHOLE), i128::from(part));
+            (whole - n * part, part, whole)
+        }
+    };
+    let spokes = far_ends.iter().map(|&far_end| (spoke, far_end));
     Blend {
-        terms: std::iter::once((5 * n, vertex)).chain(spokes).collect(),
-        denominator: 8 * n,
+        terms: std::iter::once((own, vertex)).chain(spokes).collect(),
+        denominator,
     }
 }
 

@@ -16,6 +16,7 @@ pub const SHORT: u32 = 10;
 pub const FIELD: u32 = 11;
 pub const EXTRA: u32 = 12;
 pub const DOUBLED: u32 = 13;
+pub const VALENCE: u32 = 14;
 
 /// The first check that holds, and where.
 #[derive(Clone, Copy, Debug, PartialEq, Eq)]

@@ -103,7 +103,9 @@ fn drawn_tables_are_answered() {
         assert_eq!(check_any_size(&cage), answer);
         let written = write_cage_file(&cage, &mut [0; 500]);
         assert_eq!(written.err(), answer.err());
-        let refined = common::refined_into(&cage, 1, [100; 4]);
-        assert_eq!(refined.err(), answer.err());
+        for weight in common::WEIGHTS {
+            let refined = common::refined_into(&cage, 1, weight, [100; 4]);
+            assert_eq!(refined.err(), answer.err());
+        }
     }
 }

@@ -4,6 +4,7 @@ use std::io::Write;
 use std::process::{Command, Output, Stdio};
 
 use second::stl::level_0_stl;
+use second::weight::paper_part;
 
 /// Runs the second program with these words and this standard input.
 fn run(words: &[&str], input: &[u8]) -> Output {
@@ -30,12 +31,13 @@ fn printed(words: &[&str], input: &[u8]) -> String {
 
 #[test]
 fn unknown_usage_is_told() {
-    let unknown: [&[&str]; 6] = [
+    let unknown: [&[&str]; 7] = [
         &[],
         &["lists"],
         &["list", "more"],
         &["counts", "12"],
         &["stl", "more"],
+        &["weights", "2"],
         &["cage"],
     ];
     for words in unknown {
@@ -116,6 +118,20 @@ fn a_count_question_is_answered() {
     for text in no_questions {
         assert_eq!(run(&["counts"], text).status.code(), Some(1), "{text:?}");
     }
+}
+
+/// 31 lines, each a valence and its entry.
+#[test]
+fn the_entries_of_the_paper_s_weight_are_printed() {
+    let printed = printed(&["weights"], &[]);
+    let lines: Vec<&str> = printed.lines().collect();
+    assert_eq!(lines.len(), 31);
+    for (valence, line) in (2..).zip(lines) {
+        let part = paper_part(valence).expect("an entry");
+        assert_eq!(line, format!("{valence} {part}"));
+    }
+    assert!(printed.starts_with("2 5111808\n3 3145728\n4 2031616\n5 "));
+    assert!(printed.contains("\n6 1048576\n7 "));
 }
 
 #[test]

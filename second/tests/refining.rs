@@ -1,62 +1,59 @@
-//! Document 01, "One level to the next" and "Points", over the suite.
+//! Document 01, "One level to the next" and "Points", over the suite, with
+//! either weight.
 
 mod common;
 
 use std::collections::HashMap;
 
-use common::{document_pillow, lendable, levels, refined_into, room, small_accepted, triangle};
+use common::{
+    corners, document_pillow, lendable, levels, levels_with, refinable, refined_into, room,
+    small_accepted, triangle, WEIGHTS,
+};
 use second::cage::{Cage, MARKER};
 use second::check::{check, check_any_size, CageCounts};
 use second::counts::count_question;
 use second::refusal::Refusal;
-use second::suite::{accepted_cages, suite};
+use second::suite::{accepted_cages, suite, SuiteCage};
+use second::weight::Weight;
 
 const DEPTH: u64 = 3;
 
 #[test]
 fn level_0_is_the_cage() {
-    for entry in small_accepted() {
-        assert_eq!(levels(&entry.cage, 0), [entry.cage], "{}", entry.name);
+    for weight in WEIGHTS {
+        for entry in refinable(weight, small_accepted()) {
+            let levels = levels_with(weight, &entry.cage, 0);
+            assert_eq!(levels, [entry.cage], "{}", entry.name);
+        }
     }
 }
 
 /// Each level keeps the rules 3 to 8, and its counts follow from the cage's.
 #[test]
 fn each_level_is_sound() {
-    for entry in accepted_cages() {
-        let first = check(&entry.cage).expect("accepted");
-        let depth = if entry.is_large() { 1 } else { DEPTH };
-        for (depth, level) in levels(&entry.cage, depth).iter().enumerate() {
-            let counts = check_any_size(level).expect(&entry.name);
-            assert_eq!(counts.halfedges, first.halfedges << (2 * depth));
-            assert_eq!(counts.triangles, first.triangles << (2 * depth));
-            assert_eq!(counts.borders, first.borders << depth);
-            assert_eq!(characteristic(&counts), characteristic(&first));
+    for weight in WEIGHTS {
+        for entry in refinable(weight, accepted_cages()) {
+            let depth = if entry.is_large() { 1 } else { DEPTH };
+            let levels = levels_with(weight, &entry.cage, depth);
+            assert_sound(&entry.name, &levels);
         }
+    }
+}
+
+fn assert_sound(name: &str, levels: &[Cage]) {
+    let first = check(&levels[0]).expect(name);
+    for (depth, level) in levels.iter().enumerate() {
+        let counts = check_any_size(level).expect(name);
+        assert_eq!(counts.halfedges, first.halfedges << (2 * depth));
+        assert_eq!(counts.triangles, first.triangles << (2 * depth));
+        assert_eq!(counts.borders, first.borders << depth);
+        assert_eq!(characteristic(&counts), characteristic(&first));
     }
 }
 
 /// V − E + F.
 fn characteristic(counts: &CageCounts) -> i64 {
     (counts.vertices + counts.triangles) as i64 - counts.edges as i64
-}
-
-/// How many corners each vertex has, and whether it is on a border.
-fn corners(level: &Cage) -> Vec<(usize, bool)> {
-    let mut corners = vec![(0, false); level.vertex_count()];
-    for triangle in 0..level.triangle_count() {
-        for corner in 0..3 {
-            let h = 3 * triangle + corner;
-            let after = 3 * triangle + (corner + 1) % 3;
-            let (from, to) = (level.vert[h] as usize, level.vert[after] as usize);
-            corners[from].0 += 1;
-            if level.twin[h] == MARKER {
-                corners[from].1 = true;
-                corners[to].1 = true;
-            }
-        }
-    }
-    corners
 }
 
 #[test]
@@ -89,13 +86,23 @@ fn shapes(level: &Cage) -> HashMap<Vec<[i32; 3]>, usize> {
 /// Numbers of triangles, vertices and edges have no part in where points lie.
 #[test]
 fn other_numbers_give_the_same_surface() {
-    let cages: HashMap<String, Cage> = small_accepted()
+    for weight in WEIGHTS {
+        let cages = refinable(weight, small_accepted());
+        assert_same_surfaces(weight, cages);
+    }
+}
+
+fn assert_same_surfaces(weight: Weight, cages: Vec<SuiteCage>) {
+    let cages: HashMap<String, Cage> = cages
         .into_iter()
         .map(|entry| (entry.name, entry.cage))
         .collect();
     for (name, cage) in &cages {
         if let Some(disguised) = cages.get(&format!("{name}-disguised")) {
-            let (plain, other) = (levels(cage, 2), levels(disguised, 2));
+            let (plain, other) = (
+                levels_with(weight, cage, 2),
+                levels_with(weight, disguised, 2),
+            );
             for (plain, other) in plain.iter().zip(&other) {
                 assert_eq!(shapes(plain), shapes(other), "{name}");
             }
@@ -111,12 +118,14 @@ fn a_moved_cage_gives_moved_levels() {
         points: cage.points.iter().map(|c| c / 2 + by).collect(),
         ..cage.clone()
     };
-    for entry in small_accepted() {
-        let here = levels(&halved_and_moved(&entry.cage, 0), 2);
-        let there = levels(&halved_and_moved(&entry.cage, 77), 2);
-        for (here, there) in here.iter().zip(&there) {
-            let moved: Vec<i32> = here.points.iter().map(|c| c + 77).collect();
-            assert_eq!(moved, there.points, "{}", entry.name);
+    for weight in WEIGHTS {
+        for entry in refinable(weight, small_accepted()) {
+            let here = levels_with(weight, &halved_and_moved(&entry.cage, 0), 2);
+            let there = levels_with(weight, &halved_and_moved(&entry.cage, 77), 2);
+            for (here, there) in here.iter().zip(&there) {
+                let moved: Vec<i32> = here.points.iter().map(|c| c + 77).collect();
+                assert_eq!(moved, there.points, "{}", entry.name);
+            }
         }
     }
 }
@@ -150,8 +159,14 @@ fn border_neighbours_may_be_the_same_vertex() {
 #[test]
 fn a_level_of_equal_points_stays_where_it_is() {
     for coordinate in [1_048_576, -1_048_576, 0, -1] {
-        for level in levels(&triangle([coordinate; 9]), 6) {
-            assert!(level.points.iter().all(|&c| c == coordinate));
+        let pillow = Cage {
+            points: vec![coordinate; 9],
+            ..document_pillow()
+        };
+        for cage in [triangle([coordinate; 9]), pillow] {
+            for level in WEIGHTS.map(|weight| levels_with(weight, &cage, 6)).concat() {
+                assert!(level.points.iter().all(|&c| c == coordinate));
+            }
         }
     }
 }
@@ -161,25 +176,30 @@ fn cells_past_the_room_are_untouched() {
     let counts = count_question(6, 3, 3, 2).expect("accepted");
     let exact = room(&counts);
     let wider = [exact[0] + 1, exact[1] + 20, exact[2] + 3, exact[3] + 7];
-    let (_, tables) = refined_into(&document_pillow(), 2, wider).expect("refined");
-    let (_, alone) = refined_into(&document_pillow(), 2, exact).expect("refined");
-    let before = lendable(wider);
-    assert_eq!(tables.twin[..exact[0]], alone.twin);
-    assert_eq!(tables.points[..exact[3]], alone.points);
-    assert_eq!(tables.twin[exact[0]..], before.twin[exact[0]..]);
-    assert_eq!(tables.vert[exact[1]..], before.vert[exact[1]..]);
-    assert_eq!(tables.edge[exact[2]..], before.edge[exact[2]..]);
-    assert_eq!(tables.points[exact[3]..], before.points[exact[3]..]);
+    for weight in WEIGHTS {
+        let refined = |lengths| refined_into(&document_pillow(), 2, weight, lengths);
+        let (_, tables) = refined(wider).expect("refined");
+        let (_, alone) = refined(exact).expect("refined");
+        let before = lendable(wider);
+        assert_eq!(tables.twin[..exact[0]], alone.twin);
+        assert_eq!(tables.points[..exact[3]], alone.points);
+        assert_eq!(tables.twin[exact[0]..], before.twin[exact[0]..]);
+        assert_eq!(tables.vert[exact[1]..], before.vert[exact[1]..]);
+        assert_eq!(tables.edge[exact[2]..], before.edge[exact[2]..]);
+        assert_eq!(tables.points[exact[3]..], before.points[exact[3]..]);
+    }
 }
 
 #[test]
 fn the_first_short_table_answers() {
-    let answer = |lengths| refined_into(&document_pillow(), 0, lengths).err();
-    assert_eq!(answer([6, 6, 6, 9]), None);
-    assert_eq!(answer([0, 0, 0, 0]), Some(Refusal::new(9, 1)));
-    assert_eq!(answer([6, 5, 5, 8]), Some(Refusal::new(9, 2)));
-    assert_eq!(answer([6, 6, 5, 8]), Some(Refusal::new(9, 3)));
-    assert_eq!(answer([7, 7, 7, 8]), Some(Refusal::new(9, 4)));
+    for weight in WEIGHTS {
+        let answer = |lengths| refined_into(&document_pillow(), 0, weight, lengths).err();
+        assert_eq!(answer([6, 6, 6, 9]), None);
+        assert_eq!(answer([0, 0, 0, 0]), Some(Refusal::new(9, 1)));
+        assert_eq!(answer([6, 5, 5, 8]), Some(Refusal::new(9, 2)));
+        assert_eq!(answer([6, 6, 5, 8]), Some(Refusal::new(9, 3)));
+        assert_eq!(answer([7, 7, 7, 8]), Some(Refusal::new(9, 4)));
+    }
 }
 
 /// Refusals 1 to 8 come before 9, and a wrong depth before 3 to 8 but after 1.
@@ -187,7 +207,7 @@ fn the_first_short_table_answers() {
 fn refusals_in_number_order() {
     for entry in suite() {
         if let Err(refusal) = check(&entry.cage) {
-            let answer = |depth| refined_into(&entry.cage, depth, [0; 4]).err();
+            let answer = |depth| refined_into(&entry.cage, depth, Weight::Short, [0; 4]).err();
             assert_eq!(answer(0), Some(refusal), "{}", entry.name);
             let with_depth = Refusal::new(refusal.number.min(2), 0);
             assert_eq!(answer(7), Some(with_depth), "{}", entry.name);

@@ -2,7 +2,7 @@
 
 mod common;
 
-use common::{document_triangle, file_of, refined_into, room, triangle};
+use common::{document_triangle, file_of, refined_into, room, triangle, WEIGHTS};
 use second::cage::Cage;
 use second::check::check;
 use second::counts::count_question;
@@ -40,10 +40,12 @@ fn depth_up_to_the_limit() {
     assert_eq!(counts.halfedge_room, 16_383);
     assert_eq!(count_question(3, 3, 3, 7), Err(Refusal::new(2, 0)));
     let cage = document_triangle();
-    assert!(refined_into(&cage, 6, room(&counts)).is_ok());
-    for depth in [7, 1 << 32, u64::MAX] {
-        let answer = refined_into(&cage, depth, room(&counts));
-        assert_eq!(answer.err(), Some(Refusal::new(2, 0)));
+    for weight in WEIGHTS {
+        assert!(refined_into(&cage, 6, weight, room(&counts)).is_ok());
+        for depth in [7, 1 << 32, u64::MAX] {
+            let answer = refined_into(&cage, depth, weight, room(&counts));
+            assert_eq!(answer.err(), Some(Refusal::new(2, 0)));
+        }
     }
 }
 
@@ -62,15 +64,15 @@ fn coordinates_up_to_the_limit() {
 
 #[test]
 fn room_exact_and_one_short() {
-    let cage = document_triangle();
-    for depth in 0..=6 {
+    for (depth, weight) in (0..=6).flat_map(|depth| WEIGHTS.map(|weight| (depth, weight))) {
         let exact = room(&count_question(3, 3, 3, depth).expect("accepted"));
-        assert!(refined_into(&cage, depth, exact).is_ok());
+        let answer = |lengths| refined_into(&document_triangle(), depth, weight, lengths);
+        assert!(answer(exact).is_ok());
         for table in 0..4 {
             let mut short = exact;
             short[table] -= 1;
             let refusal = Refusal::new(9, table + 1);
-            assert_eq!(refined_into(&cage, depth, short).err(), Some(refusal));
+            assert_eq!(answer(short).err(), Some(refusal));
         }
     }
 }

@@ -1,5 +1,5 @@
-//! For trying what document 01 says: the named cages, those to accept and
-//! those to send back.
+//! For trying what documents 01 and 02 say: the named cages, those to accept
+//! and those to send back.
 
 mod changed;
 mod cushion;
@@ -7,6 +7,7 @@ mod damaged;
 mod disguise;
 mod drawn;
 mod shapes;
+mod valences;
 mod valid;
 
 use crate::cage::Cage;
@@ -46,7 +47,12 @@ pub fn suite() -> Vec<SuiteCage> {
 /// The cages that have to be accepted: each as it was built, then each again
 /// under other numbers.
 pub fn accepted_cages() -> Vec<SuiteCage> {
-    let built = [valid::built_cages(), drawn::accepted_cages()].concat();
+    let built = [
+        valid::built_cages(),
+        drawn::accepted_cages(),
+        valences::valence_cages(),
+    ]
+    .concat();
     let disguised = (0..).zip(&built).map(|(seed, (name, cage))| {
         let name = format!("{name}-disguised");
         (name, disguise::disguised(cage, seed))

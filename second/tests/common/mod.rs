@@ -9,6 +9,9 @@ use second::refine::refine;
 use second::refusal::Refusal;
 use second::suite::{accepted_cages, SuiteCage};
 use second::tables::LentTables;
+use second::weight::Weight;
+
+pub const WEIGHTS: [Weight; 2] = [Weight::Short, Weight::Paper];
 
 /// Tables of these lengths, each cell of which can be told from its
 /// neighbours, so that any change shows.
@@ -35,11 +38,12 @@ pub fn lend(tables: &mut Cage) -> LentTables<'_> {
 pub fn refined_into(
     cage: &Cage,
     depth: u64,
+    weight: Weight,
     lengths: [usize; 4],
 ) -> Result<(LevelCounts, Cage), Refusal> {
     let before = lendable(lengths);
     let mut tables = before.clone();
-    let answer = refine(cage, depth, &mut lend(&mut tables));
+    let answer = refine(cage, depth, weight, &mut lend(&mut tables));
     if answer.is_err() {
         assert_eq!(tables, before);
     }
@@ -52,13 +56,18 @@ pub fn room(counts: &LevelCounts) -> [usize; 4] {
     [h_room, h_room, h_room, 3 * counts.vertex_room as usize]
 }
 
-/// Levels 0 to the depth of an accepted cage, one by one.
+/// Levels 0 to the depth of an accepted cage, one by one, with the short weight.
 pub fn levels(cage: &Cage, depth: u64) -> Vec<Cage> {
+    levels_with(Weight::Short, cage, depth)
+}
+
+/// Levels 0 to the depth of a cage that refining with this weight accepts.
+pub fn levels_with(weight: Weight, cage: &Cage, depth: u64) -> Vec<Cage> {
     let checked = second::check::check(cage).expect("accepted");
     let counts =
         second::counts::count_question(checked.halfedges, checked.edges, checked.vertices, depth)
             .expect("counted");
-    let (answer, tables) = refined_into(cage, depth, room(&counts)).expect("refined");
+    let (answer, tables) = refined_into(cage, depth, weight, room(&counts)).expect("refined");
     assert_eq!(answer, counts);
     cut_into_levels(&tables, &counts, depth)
 }
@@ -109,6 +118,37 @@ pub fn document_pillow() -> Cage {
 pub fn small_accepted() -> Vec<SuiteCage> {
     let all = accepted_cages().into_iter();
     all.filter(|entry| !entry.is_large()).collect()
+}
+
+/// Those that refining with this weight accepts.
+pub fn refinable(weight: Weight, mut cages: Vec<SuiteCage>) -> Vec<SuiteCage> {
+    cages.retain(|entry| weight == Weight::Short || lowest_of_many_corners(&entry.cage).is_none());
+    cages
+}
+
+/// How many corners each vertex has, and whether it is on a border.
+pub fn corners(level: &Cage) -> Vec<(usize, bool)> {
+    let mut corners = vec![(0, false); level.vertex_count()];
+    for triangle in 0..level.triangle_count() {
+        for corner in 0..3 {
+            let h = 3 * triangle + corner;
+            let after = 3 * triangle + (corner + 1) % 3;
+            let (from, to) = (level.vert[h] as usize, level.vert[after] as usize);
+            corners[from].0 += 1;
+            if level.twin[h] == MARKER {
+                corners[from].1 = true;
+                corners[to].1 = true;
+            }
+        }
+    }
+    corners
+}
+
+/// The lowest inner vertex of more than 32 corners.
+pub fn lowest_of_many_corners(level: &Cage) -> Option<usize> {
+    let corners = corners(level);
+    let is_such = |&(count, on_border): &(usize, bool)| count > 32 && !on_border;
+    corners.iter().position(is_such)
 }
 
 /// The cage file of an accepted cage.

@@ -4,6 +4,7 @@
 mod cells;
 mod joined;
 mod lengths;
+mod valences;
 mod wholes;
 
 use super::{Expected, SuiteCage};
@@ -22,6 +23,7 @@ pub(super) fn damaged_cages() -> Vec<SuiteCage> {
         wholes::wrong_vertices(),
         wholes::wrong_fans(),
         wholes::several_faults(),
+        valences::faults_behind_many_corners(),
     ];
     let damaged = damaged.into_iter().flatten();
     damaged
