@@ -1,11 +1,13 @@
-/* example FILE DEPTH [STL]: reads a cage file, quotes the room for the depth, refines, and prints H, E and V of each level.
- * With a third argument it writes the last level as STL to the file of that name.
+/* example FILE DEPTH short|paper [STL]: reads a cage file, quotes the room for the depth, refines with the short weight or the
+ * paper's, and prints H, E and V of each level. With a fourth argument it writes the last level as STL to that file.
  * Ends with status 1 where the cage or the depth is refused, and with 2 where anything else is wrong. */
 #include "ryebadger.h"
 
 #include <stdio.h>
 #include <stdlib.h>
+#include <string.h>
 
+static const char usage[] = "usage: example FILE DEPTH short|paper [STL]";
 enum { H = RYEBADGER_MOST_HALFEDGES, V = RYEBADGER_MOST_VERTICES };
 static uint8_t file[RYEBADGER_LONGEST_FILE + 1]; /* a byte more, so that a longer file is refused as such */
 static uint32_t twin[H], vert[H], edge[H], answer[RYEBADGER_COUNTS_ANSWER];
@@ -17,6 +19,12 @@ static void end_if(int wrong, const char *what) {
 
 static void end_if_refused(void) {
     if (answer[0] != RYEBADGER_DONE) fprintf(stderr, "refused %u %u\n", answer[0], answer[1]), exit(1);
+}
+
+static enum ryebadger_weight weight_named(const char *word) {
+    const int is_short = strcmp(word, "short") == 0;
+    end_if(!is_short && strcmp(word, "paper") != 0, usage);
+    return is_short ? RYEBADGER_SHORT_WEIGHT : RYEBADGER_PAPER_WEIGHT;
 }
 
 static void write_stl(const char *name, const uint32_t *corners, size_t h, const int32_t *places, size_t v) {
@@ -32,7 +40,8 @@ static void write_stl(const char *name, const uint32_t *corners, size_t h, const
 }
 
 int main(int argc, char **argv) {
-    end_if(argc != 3 && argc != 4, "usage: example FILE DEPTH [STL]");
+    end_if(argc != 4 && argc != 5, usage);
+    const enum ryebadger_weight weight = weight_named(argv[3]);
     char *rest;
     const uint64_t depth = strtoull(argv[2], &rest, 10);
     end_if(rest == argv[2] || *rest != '\0', "the depth is not a number");
@@ -52,15 +61,15 @@ int main(int argc, char **argv) {
     uint32_t *lent = malloc(3 * room * sizeof *lent);
     int32_t *places = malloc(points_room * sizeof *places);
     end_if(lent == NULL || places == NULL, "there is no memory for the levels");
-    ryebadger_refine(twin, h, vert, h, edge, h, points, 3 * v, depth, /* into */ lent, room, lent + room, room,
+    ryebadger_refine(twin, h, vert, h, edge, h, points, 3 * v, depth, weight, /* into */ lent, room, lent + room, room,
                      lent + 2 * room, room, places, points_room, answer);
     end_if_refused();
     for (unsigned level = 0; level <= depth; level++)
         printf("%u %u %u %u\n", level, answer[RYEBADGER_AT_H + level], answer[RYEBADGER_AT_E + level],
                answer[RYEBADGER_AT_V + level]);
     end_if(fflush(stdout) != 0, "standard output cannot be written");
-    if (argc == 4) { /* the last level stands at the end of the room */
+    if (argc == 5) { /* the last level stands at the end of the room */
         const size_t last_h = answer[RYEBADGER_AT_H + depth], last_v = answer[RYEBADGER_AT_V + depth];
-        write_stl(argv[3], lent + 2 * room - last_h, last_h, places + points_room - 3 * last_v, last_v);
+        write_stl(argv[4], lent + 2 * room - last_h, last_h, places + points_room - 3 * last_v, last_v);
     }
 }

@@ -50,23 +50,33 @@ extern "C" {
 #define RYEBADGER_LONGEST_TABLE 12582912
 #define RYEBADGER_STL_LENGTH(triangles) (84 + 50 * (size_t)(triangles))
 
+/* The weight of each spoke of an inner vertex, which is one on no border: document 01's short one, 3/(8n) with n corners, or
+ * the paper's, which is that of source document 002's rule V.3 to the nearest 2^24th. Any other number than 0 is taken as
+ * the paper's. */
+enum ryebadger_weight { RYEBADGER_SHORT_WEIGHT = 0, RYEBADGER_PAPER_WEIGHT = 1 };
+
+/* The most corners that an inner vertex may have with the paper's weight. */
+#define RYEBADGER_MOST_CORNERS 32
+
 /* The numbers of an answer, by the documents' names, with the place that goes with each. Checks run in the order of their
- * numbers, except in reading and in building; the first that holds is the answer. */
+ * numbers, except in reading and in building, and except that 14 comes after 7 and before 8; the first that holds is the
+ * answer. */
 enum ryebadger_number {
-    RYEBADGER_DONE = 0,    /* 0 */
-    RYEBADGER_SHAPE = 1,   /* lengths or counts that no cage has: 0 */
-    RYEBADGER_LIMIT = 2,   /* H, V or the depth is above its limit: 0 */
-    RYEBADGER_TWIN = 3,    /* a twin that is none: the lowest such halfedge */
-    RYEBADGER_VERTEX = 4,  /* a vertex out of range, or not where the next or the twin has it: the lowest such halfedge */
-    RYEBADGER_UNUSED = 5,  /* a vertex on no halfedge: the lowest such vertex */
-    RYEBADGER_EDGE = 6,    /* an edge out of range, unlike the twin's or carried elsewhere: the lowest such halfedge */
-    RYEBADGER_FAN = 7,     /* corners at a vertex that are not one fan: the lowest such vertex */
-    RYEBADGER_POINT = 8,   /* a coordinate out of range: the lowest such index in the points */
-    RYEBADGER_ROOM = 9,    /* a lent table is too short: the first, as 1 twin, 2 vert, 3 edge, 4 points, 5 file, 6 STL file */
-    RYEBADGER_SHORT = 10,  /* the file ends before a field's head and payload are whole: the offset of that head */
-    RYEBADGER_FIELD = 11,  /* wrong tag, length or form number: the offset of that head */
-    RYEBADGER_EXTRA = 12,  /* bytes after the end field: the offset of the first */
-    RYEBADGER_DOUBLED = 13 /* two halfedges from the same vertex to the same one: the lowest that has such a double */
+    RYEBADGER_DONE = 0,     /* 0 */
+    RYEBADGER_SHAPE = 1,    /* lengths or counts that no cage has: 0 */
+    RYEBADGER_LIMIT = 2,    /* H, V or the depth is above its limit: 0 */
+    RYEBADGER_TWIN = 3,     /* a twin that is none: the lowest such halfedge */
+    RYEBADGER_VERTEX = 4,   /* a vertex out of range, or not where the next or the twin has it: the lowest such halfedge */
+    RYEBADGER_UNUSED = 5,   /* a vertex on no halfedge: the lowest such vertex */
+    RYEBADGER_EDGE = 6,     /* an edge out of range, unlike the twin's or carried elsewhere: the lowest such halfedge */
+    RYEBADGER_FAN = 7,      /* corners at a vertex that are not one fan: the lowest such vertex */
+    RYEBADGER_POINT = 8,    /* a coordinate out of range: the lowest such index in the points */
+    RYEBADGER_ROOM = 9,     /* a lent table is too short: the first, as 1 twin, 2 vert, 3 edge, 4 points, 5 file, 6 STL file */
+    RYEBADGER_SHORT = 10,   /* the file ends before a field's head and payload are whole: the offset of that head */
+    RYEBADGER_FIELD = 11,   /* wrong tag, length or form number: the offset of that head */
+    RYEBADGER_EXTRA = 12,   /* bytes after the end field: the offset of the first */
+    RYEBADGER_DOUBLED = 13, /* two halfedges from the same vertex to the same one: the lowest that has such a double */
+    RYEBADGER_VALENCE = 14  /* an inner vertex of too many corners for the paper's weight: the lowest such vertex */
 };
 
 /* The lengths of the answers. Building answers as the cage check does, refining as the count question, writing STL as writing
@@ -98,14 +108,15 @@ void ryebadger_check(const uint32_t *twin, size_t twin_length, const uint32_t *v
 void ryebadger_counts(uint64_t halfedges, uint64_t edges, uint64_t vertices, uint64_t depth,
                       uint32_t answer[RYEBADGER_COUNTS_ANSWER]);
 
-/* Refining: refusals 1 to 9. Done, levels 0 to the depth stand end to end from the front of the four lent tables, level 0
- * being the cage, and the values are the count question's for this cage and depth. Needed is the room in halfedges in each
- * of the first three lent tables and three times the room in vertices in the points; cells past that are untouched. */
+/* Refining with a weight of enum ryebadger_weight: refusals 1 to 9 and, with the paper's weight, at any depth, 14 after 7 and
+ * before 8. Done, levels 0 to the depth stand end to end from the front of the four lent tables, level 0 being the cage, and
+ * the values are the count question's for this cage and depth. Needed is the room in halfedges in each of the first three
+ * lent tables and three times the room in vertices in the points; cells past that are untouched. */
 void ryebadger_refine(const uint32_t *twin, size_t twin_length, const uint32_t *vert, size_t vert_length,
                       const uint32_t *edge, size_t edge_length, const int32_t *points, size_t points_length,
-                      uint64_t depth, uint32_t *lent_twin, size_t lent_twin_length, uint32_t *lent_vert,
-                      size_t lent_vert_length, uint32_t *lent_edge, size_t lent_edge_length, int32_t *lent_points,
-                      size_t lent_points_length, uint32_t answer[RYEBADGER_COUNTS_ANSWER]);
+                      uint64_t depth, uint32_t weight, uint32_t *lent_twin, size_t lent_twin_length,
+                      uint32_t *lent_vert, size_t lent_vert_length, uint32_t *lent_edge, size_t lent_edge_length,
+                      int32_t *lent_points, size_t lent_points_length, uint32_t answer[RYEBADGER_COUNTS_ANSWER]);
 
 /* The corner question: refusal 1. Done, the values are the triangle's three corner numbers, as stored in the table. */
 void ryebadger_corners(const uint32_t *vert, size_t vert_length, uint64_t triangle,

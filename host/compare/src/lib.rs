@@ -15,18 +15,18 @@ mod question;
 mod suite;
 mod vertices;
 
-pub use asked::{handed, Archive, Operations, SafeCrate, SecondProgram};
+pub use asked::{chosen, handed, Archive, Operations, SafeCrate, SecondProgram};
 pub use files::{file_of, heads, lengths_of, stl_length};
 pub use outcome::{first_difference, Difference, Outcome};
 pub use process::{repository, run};
-pub use question::Question;
-pub use suite::{accepted, named, refused, room_at};
+pub use question::{marked_tables, Question, WEIGHTS};
+pub use suite::{accepted, named, refused, room_at, verdict_with};
 pub use vertices::{vertices_of, Vertex};
 
 /// Puts the question to all three, which have to leave the same behind.
 pub fn assert_alike(name: &str, question: &Question) -> Outcome {
     let judged = question.put_to(&SecondProgram);
-    let hosts: [&dyn Operations; 2] = [&Archive, &SafeCrate];
+    let hosts: [&dyn Operations; 2] = [&Archive::default(), &SafeCrate];
     for host in hosts {
         assert_same(name, question, &question.put_to(host), &judged);
     }

@@ -1,8 +1,12 @@
 //! What can be asked, and the tables and buffers that are lent for it.
 
 use second::cage::Cage;
+use second::weight::Weight;
 
 use crate::{Operations, Outcome};
+
+/// Both weights that refining takes.
+pub const WEIGHTS: [Weight; 2] = [Weight::Short, Weight::Paper];
 
 /// One call of a public operation, with the lengths of what is lent.
 #[derive(Clone, Copy, Debug)]
@@ -13,8 +17,8 @@ pub enum Question<'a> {
     Counts([u64; 4]),
     /// The corner question: a VERT table and a triangle.
     Corners(&'a [u32], u64),
-    /// Refining to a depth, into tables of these lengths.
-    Refine(&'a Cage, u64, [usize; 4]),
+    /// Refining to a depth with a weight, into tables of these lengths.
+    Refine(&'a Cage, u64, Weight, [usize; 4]),
     /// Reading a file into tables of these lengths.
     Read(&'a [u8], [usize; 4]),
     /// Writing into a buffer of this length.
@@ -34,9 +38,9 @@ impl Question<'_> {
             Question::Check(cage) => asked.check(cage),
             Question::Counts(numbers) => asked.counts(numbers),
             Question::Corners(vert, triangle) => asked.corners(vert, triangle),
-            Question::Refine(cage, depth, lengths) => {
+            Question::Refine(cage, depth, weight, lengths) => {
                 left.tables = marked_tables(lengths);
-                asked.refine(cage, depth, &mut left.tables)
+                asked.refine(cage, depth, weight, &mut left.tables)
             }
             Question::Read(file, lengths) => {
                 left.tables = marked_tables(lengths);
@@ -68,8 +72,9 @@ impl Question<'_> {
             Question::Check(cage) => format!("check of {}", lengths(cage)),
             Question::Counts(numbers) => format!("counts of {numbers:?}"),
             Question::Corners(vert, triangle) => format!("corners of {triangle} in {vert:?}"),
-            Question::Refine(cage, depth, lent) => {
-                format!("refining of {} to {depth} into {lent:?}", lengths(cage))
+            Question::Refine(cage, depth, weight, lent) => {
+                let of = lengths(cage);
+                format!("refining of {of} to {depth} with {weight:?} into {lent:?}")
             }
             Question::Read(file, lent) => format!("reading of {} bytes into {lent:?}", file.len()),
             Question::Write(cage, lent) => format!("writing of {} into {lent}", lengths(cage)),
@@ -87,7 +92,7 @@ impl Question<'_> {
 
 /// Tables of these lengths to lend. A cell can be told from its neighbours and
 /// from the same cell of another table, so that any change of it shows.
-fn marked_tables(lengths: [usize; 4]) -> Cage {
+pub fn marked_tables(lengths: [usize; 4]) -> Cage {
     let cells = |salt: u32, length: usize| (0..length as u32).map(move |at| at ^ salt).collect();
     Cage {
         twin: cells(0xAAAA_0000, lengths[0]),

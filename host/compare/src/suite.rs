@@ -1,9 +1,13 @@
-//! The second program's suite, and the room that its cages need.
+//! The second program's suite, the room that its cages need, and what refining
+//! them has to answer.
 
 use second::cage::Cage;
 use second::check::check;
 use second::counts::count_question;
 use second::suite::{cage_named, suite, SuiteCage};
+use second::weight::Weight;
+
+use crate::{vertices_of, Vertex};
 
 /// The cages of the suite that are accepted.
 pub fn accepted() -> Vec<SuiteCage> {
@@ -29,4 +33,15 @@ pub fn room_at(cage: &Cage, depth: u64) -> [usize; 4] {
     let counts = counts.expect("a depth up to the limit");
     let (h_room, v_room) = (counts.halfedge_room as usize, counts.vertex_room as usize);
     [h_room, h_room, h_room, 3 * v_room]
+}
+
+/// Number and place for an accepted cage that is refined with room: done, or
+/// with the paper's weight 14 at the lowest inner vertex of more than 32 corners.
+pub fn verdict_with(weight: Weight, cage: &Cage) -> (u64, u64) {
+    let has_too_many = |vertex: &Vertex| vertex.corners > 32 && !vertex.is_on_border();
+    let lowest = vertices_of(cage).iter().position(has_too_many);
+    match (weight, lowest) {
+        (Weight::Paper, Some(vertex)) => (14, vertex as u64),
+        _ => (0, 0),
+    }
 }

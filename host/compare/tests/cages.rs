@@ -3,7 +3,7 @@
 
 use std::path::Path;
 
-use compare::{assert_alike, lengths_of, named, room_at, Question};
+use compare::{assert_alike, lengths_of, named, room_at, Question, WEIGHTS};
 use second::cage::Cage;
 use second::file::write_cage_file;
 
@@ -37,8 +37,10 @@ fn each_file_is_read_refined_and_written_alike() {
         let written = assert_alike(name, &Question::Write(&cage, file.len()));
         assert_eq!(written.file, file, "{name}");
         for depth in 0..=6 {
-            let question = Question::Refine(&cage, depth, room_at(&cage, depth));
-            assert_eq!(assert_alike(name, &question).verdict(), (0, 0), "{name}");
+            for weight in WEIGHTS {
+                let question = Question::Refine(&cage, depth, weight, room_at(&cage, depth));
+                assert_eq!(assert_alike(name, &question).verdict(), (0, 0), "{name}");
+            }
         }
     }
 }

@@ -2,9 +2,10 @@
 //! is wrong is said.
 
 use compare::{
-    assert_same, file_of, first_difference, named, room_at, stl_length, Archive, Outcome, Question,
-    SecondProgram,
+    assert_same, file_of, first_difference, named, room_at, stl_length, Archive, Difference,
+    Outcome, Question, SecondProgram,
 };
+use second::weight::Weight;
 
 /// The outcome with each of its cells changed in turn, and the part and cell
 /// that was.
@@ -31,7 +32,7 @@ fn changed_everywhere(outcome: &Outcome) -> Vec<(&'static str, usize, Outcome)> 
 
 #[test]
 fn one_wrong_cell_anywhere_is_reported_there() {
-    let cage = named("pillow");
+    let (cage, many) = (named("pillow"), named("disc-33"));
     let file = file_of(&cage);
     let room = room_at(&cage, 1).map(|length| length + 3);
     let stl = stl_length(&cage.vert);
@@ -39,8 +40,10 @@ fn one_wrong_cell_anywhere_is_reported_there() {
         Question::Check(&cage),
         Question::Counts([12, 6, 4, 2]),
         Question::Corners(&cage.vert, 1),
-        Question::Refine(&cage, 1, room),
-        Question::Refine(&cage, 7, room),
+        Question::Refine(&cage, 1, Weight::Short, room),
+        Question::Refine(&cage, 1, Weight::Paper, room),
+        Question::Refine(&cage, 7, Weight::Short, room),
+        Question::Refine(&many, 0, Weight::Paper, room),
         Question::Read(&file, room),
         Question::Read(&file[1..], room),
         Question::Write(&cage, file.len() + 3),
@@ -51,7 +54,10 @@ fn one_wrong_cell_anywhere_is_reported_there() {
         Question::WriteStl(&cage.vert, &cage.points, stl - 1),
     ] {
         let judged = question.put_to(&SecondProgram);
-        assert_eq!(first_difference(&question.put_to(&Archive), &judged), None);
+        assert_eq!(
+            first_difference(&question.put_to(&Archive::default()), &judged),
+            None
+        );
         let changed = changed_everywhere(&judged);
         assert!(changed.len() >= judged.answer.len());
         for (part, cell, wrong) in changed {
@@ -72,14 +78,32 @@ fn a_missing_or_further_cell_is_reported() {
     }
 }
 
+/// The weights are told apart: vertex 0 of the pillow goes to (3,3,0) with the
+/// short one, and to (5,5,0) with the paper's.
+#[test]
+fn the_other_weight_is_reported() {
+    let cage = named("pillow");
+    let with = |weight| Question::Refine(&cage, 1, weight, room_at(&cage, 1));
+    let host = with(Weight::Short).put_to(&Archive::default());
+    let judged = with(Weight::Paper).put_to(&SecondProgram);
+    let found = first_difference(&host, &judged).expect("a difference");
+    let of_vertex_0 = Difference {
+        part: "points",
+        cell: cage.points.len(),
+        host: Some(3),
+        second: Some(5),
+    };
+    assert_eq!(found, of_vertex_0);
+}
+
 /// The assertion that every comparison goes through is one that fails.
 #[test]
 #[should_panic(expected = "pillow: points[18] is 5, and 6 in the second program")]
 fn a_wrong_cell_fails_the_assertion() {
     let cage = named("pillow");
-    let question = Question::Refine(&cage, 1, room_at(&cage, 1));
+    let question = Question::Refine(&cage, 1, Weight::Short, room_at(&cage, 1));
     let judged = question.put_to(&SecondProgram);
-    let mut wrong = question.put_to(&Archive);
+    let mut wrong = question.put_to(&Archive::default());
     // Edge 0's point of level 1, document 01's P6.
     wrong.tables.points[9 + 9] -= 1;
     assert_same("pillow", &question, &wrong, &judged);

@@ -11,6 +11,7 @@ use second::cage::{Cage, COORDINATE_LIMIT, DEPTH_LIMIT, HALFEDGE_LIMIT, MARKER, 
 use second::lister::list_levels;
 use second::stl::VERT_LIMIT;
 use second::suite::suite;
+use second::weight::{Weight, VALENCES};
 
 const STRICT: [&str; 4] = ["-Wall", "-Wextra", "-Wpedantic", "-Werror"];
 
@@ -47,14 +48,24 @@ fn compiled(name: &str) -> PathBuf {
 static EXAMPLE: LazyLock<PathBuf> = LazyLock::new(|| compiled("example"));
 static TRIANGLES: LazyLock<PathBuf> = LazyLock::new(|| compiled("triangles"));
 
+/// The example's words for the weights.
+const WORDS: [(&str, Weight); 2] = [("short", Weight::Short), ("paper", Weight::Paper)];
+
+/// The example on a file, with a depth and a weight.
+fn example(file: &Path, depth: &str, weight: &str) -> Command {
+    let mut command = Command::new(&*EXAMPLE);
+    command.arg(file).args([depth, weight]);
+    command
+}
+
 /// Runs the example on a file.
-fn run_example(file: &Path, depth: &str) -> Output {
-    run(Command::new(&*EXAMPLE).arg(file).arg(depth), &[])
+fn run_example(file: &Path, depth: &str, weight: &str) -> Output {
+    run(&mut example(file, depth, weight), &[])
 }
 
 /// Runs the example on a file, with another for the STL of the last level.
-fn run_example_to_stl(file: &Path, depth: &str, stl: &Path) -> Output {
-    run(Command::new(&*EXAMPLE).arg(file).arg(depth).arg(stl), &[])
+fn run_example_to_stl(file: &Path, depth: &str, weight: &str, stl: &Path) -> Output {
+    run(example(file, depth, weight).arg(stl), &[])
 }
 
 /// The header's numbers, as the second program has them.
@@ -73,10 +84,13 @@ fn the_header_in_c_and_in_cxx() {
         ("STL_LENGTH(0)", 84),
         ("STL_LENGTH(1 + 1)", 184),
         ("STL_LENGTH(RYEBADGER_LONGEST_TABLE / 3)", 209_715_284),
+        ("SHORT_WEIGHT", 0),
+        ("PAPER_WEIGHT", 1),
+        ("MOST_CORNERS", *VALENCES.end() as u64),
     ];
     let names = [
         "DONE", "SHAPE", "LIMIT", "TWIN", "VERTEX", "UNUSED", "EDGE", "FAN", "POINT", "ROOM",
-        "SHORT", "FIELD", "EXTRA", "DOUBLED",
+        "SHORT", "FIELD", "EXTRA", "DOUBLED", "VALENCE",
     ];
     for (name, number) in limits.into_iter().chain(names.into_iter().zip(0..)) {
         source += &format!("static_assert(RYEBADGER_{name} == {number}u, \"{name}\");\n");
@@ -113,10 +127,12 @@ fn the_example_prints_the_levels_of_a_cage() {
             .collect();
         assert_eq!(lines.len(), 7);
         for depth in 0..=6 {
-            let output = run_example(&path, &depth.to_string());
-            let printed = String::from_utf8_lossy(&output.stdout);
-            assert_eq!(printed, lines[..=depth].concat(), "{name}");
-            assert!(output.status.success(), "{name}");
+            for (word, _) in WORDS {
+                let output = run_example(&path, &depth.to_string(), word);
+                let printed = String::from_utf8_lossy(&output.stdout);
+                assert_eq!(printed, lines[..=depth].concat(), "{name}");
+                assert!(output.status.success(), "{name}");
+            }
         }
     }
 }
@@ -128,37 +144,64 @@ fn the_example_says_what_is_wrong() {
     let mut stray = triangle.clone();
     stray[21] = 7; // VERT(0)
     let longer = [&triangle[..], &[0]].concat();
-    for (name, bytes, depth, status, line) in [
-        ("stray", &stray[..], "1", 1, "refused 4 0\n"),
-        ("cut", &triangle[..77], "1", 1, "refused 10 75\n"),
-        ("longer", &longer, "1", 1, "refused 12 78\n"),
-        ("deep", &triangle, "7", 1, "refused 2 0\n"),
+    let many = file_of(&named("disc-33"));
+    for (name, bytes, [depth, weight], status, line) in [
+        ("stray", &stray[..], ["1", "short"], 1, "refused 4 0\n"),
+        ("cut", &triangle[..77], ["1", "short"], 1, "refused 10 75\n"),
+        ("longer", &longer, ["1", "short"], 1, "refused 12 78\n"),
+        ("deep", &triangle, ["7", "paper"], 1, "refused 2 0\n"),
+        ("many", &many, ["0", "paper"], 1, "refused 14 33\n"),
         (
             "no-number",
             &triangle,
-            "x",
+            ["x", "short"],
             2,
             "example: the depth is not a number\n",
         ),
     ] {
         let path = folder.join(name);
         std::fs::write(&path, bytes).expect("written");
-        let output = run_example(&path, depth);
+        let output = run_example(&path, depth, weight);
         assert_eq!(output.status.code(), Some(status), "{name}");
         assert_eq!(String::from_utf8_lossy(&output.stderr), line, "{name}");
         assert!(output.stdout.is_empty(), "{name}");
     }
-    let nowhere = run_example(&folder.join("nowhere"), "1");
+    let nowhere = run_example(&folder.join("nowhere"), "1", "short");
     assert_eq!(nowhere.status.code(), Some(2));
-    assert_eq!(
-        run(&mut Command::new(&*EXAMPLE), &[]).status.code(),
-        Some(2)
-    );
+}
+
+/// Too few words, too many, or another one for the weight.
+#[test]
+fn the_example_says_how_it_is_used() {
+    let triangle = repository().join("cages/triangle.cage");
+    let triangle = triangle.to_str().expect("text");
+    for words in [
+        &[][..],
+        &[triangle],
+        &[triangle, "1"],
+        &[triangle, "1", "level.stl"],
+        &[triangle, "1", ""],
+        &[triangle, "1", "0"],
+        &[triangle, "1", "1"],
+        &[triangle, "1", "Short"],
+        &[triangle, "1", "shorter"],
+        &[triangle, "1", "pape"],
+        &[triangle, "paper", "1"],
+        &[triangle, "1", "paper", "level.stl", "more"],
+    ] {
+        let mut command = Command::new(&*EXAMPLE);
+        command.current_dir(env!("CARGO_TARGET_TMPDIR"));
+        let output = run(command.args(words), &[]);
+        assert_eq!(output.status.code(), Some(2), "{words:?}");
+        let line = "example: usage: example FILE DEPTH short|paper [STL]\n";
+        assert_eq!(String::from_utf8_lossy(&output.stderr), line, "{words:?}");
+        assert!(output.stdout.is_empty(), "{words:?}");
+    }
 }
 
 /// The second program's STL of a level of a cage.
-fn stl_at(cage: &Cage, depth: u64) -> Vec<u8> {
-    let refining = Question::Refine(cage, depth, room_at(cage, depth));
+fn stl_at(cage: &Cage, depth: u64, weight: Weight) -> Vec<u8> {
+    let refining = Question::Refine(cage, depth, weight, room_at(cage, depth));
     let tables = refining.put_to(&SecondProgram).tables;
     let before = depth.checked_sub(1).map(|above| room_at(cage, above));
     let [_, corners, _, coordinates] = before.unwrap_or_default();
@@ -174,19 +217,22 @@ fn the_example_writes_the_last_level_as_stl() {
         let path = repository().join(format!("cages/{name}.cage"));
         // The longest first: nothing of it is left behind a shorter one.
         for depth in (0..=6).rev() {
-            let word = depth.to_string();
-            let output = run_example_to_stl(&path, &word, &stl);
-            assert_eq!(output, run_example(&path, &word), "{name}");
-            assert!(output.status.success(), "{name}");
-            let written = std::fs::read(&stl).expect("a file");
-            // Not assert_eq, which would print both files.
-            assert!(written == stl_at(&named(name), depth), "{name} at {depth}");
+            let number = depth.to_string();
+            for (word, weight) in WORDS {
+                let output = run_example_to_stl(&path, &number, word, &stl);
+                assert_eq!(output, run_example(&path, &number, word), "{name}");
+                assert!(output.status.success(), "{name}");
+                let written = std::fs::read(&stl).expect("a file");
+                // Not assert_eq, which would print both files.
+                let same = written == stl_at(&named(name), depth, weight);
+                assert!(same, "{name} at {depth}, {word}");
+            }
         }
     }
     // What is refused is not written.
     let pillow = repository().join("cages/pillow.cage");
     std::fs::write(&stl, "before").expect("written");
-    let refused = run_example_to_stl(&pillow, "7", &stl);
+    let refused = run_example_to_stl(&pillow, "7", "paper", &stl);
     assert_eq!(refused.status.code(), Some(1));
     assert_eq!(std::fs::read(&stl).expect("a file"), b"before");
 }
@@ -204,11 +250,11 @@ fn the_example_says_why_there_is_no_stl() {
         ("pillow", "1", Path::new(""), "opened"),
     ] {
         let path = repository().join(format!("cages/{name}.cage"));
-        let output = run_example_to_stl(&path, depth, stl);
+        let output = run_example_to_stl(&path, depth, "short", stl);
         assert_eq!(output.status.code(), Some(2), "{name}");
         let line = format!("example: the STL file cannot be {what}\n");
         assert_eq!(String::from_utf8_lossy(&output.stderr), line);
-        assert_eq!(output.stdout, run_example(&path, depth).stdout);
+        assert_eq!(output.stdout, run_example(&path, depth, "short").stdout);
     }
 }
 
@@ -221,7 +267,7 @@ fn the_example_tells_that_there_is_no_memory() {
         let script = format!("ulimit -v {kilobytes} && exec \"$0\" \"$@\"");
         shell.arg("-c").arg(script).arg(&*EXAMPLE);
         let cushion = repository().join("cages/cushion.cage");
-        let output = run(shell.arg(cushion).arg("6").arg(&stl), &[]);
+        let output = run(shell.arg(cushion).args(["6", "short"]).arg(&stl), &[]);
         assert_eq!(output.status.code(), Some(2), "{what}");
         let line = format!("example: there is no memory for the {what}\n");
         assert_eq!(String::from_utf8_lossy(&output.stderr), line);
@@ -305,10 +351,10 @@ fn the_example_that_builds_says_what_is_wrong() {
 }
 
 /// A program with its arguments, and standard output on a full disk.
-fn onto_a_full_disk(program: &Path, arguments: &[&Path]) -> Command {
+fn onto_a_full_disk(program: &Command) -> Command {
     let mut command = Command::new("sh");
     command.args(["-c", "exec \"$0\" \"$@\" >/dev/full"]);
-    command.arg(program).args(arguments);
+    command.arg(program.get_program()).args(program.get_args());
     command
 }
 
@@ -320,15 +366,12 @@ fn the_examples_tell_a_full_disk() {
     for (name, output) in [
         (
             "example",
-            run(
-                &mut onto_a_full_disk(&EXAMPLE, &[&path, Path::new("1")]),
-                &[],
-            ),
+            run(&mut onto_a_full_disk(&example(&path, "1", "short")), &[]),
         ),
         (
             "triangles",
             run(
-                &mut onto_a_full_disk(&TRIANGLES, &[]),
+                &mut onto_a_full_disk(&Command::new(&*TRIANGLES)),
                 plain_text(&cage).as_bytes(),
             ),
         ),

@@ -1,10 +1,11 @@
 //! Demand 3 seen from outside: what every level of the host library's output
 //! keeps of the cage, judged by the second program.
 
-use compare::{handed, named, vertices_of, Vertex};
+use compare::{chosen, handed, named, verdict_with, vertices_of, Vertex, WEIGHTS};
 use ryebadger::Refined;
 use second::cage::Cage;
 use second::check::{check_any_size, CageCounts};
+use second::weight::Weight;
 
 fn owned(level: ryebadger::Cage<'_>) -> Cage {
     Cage {
@@ -36,17 +37,21 @@ const TRIED: [(&str, u64); 11] = [
     ("disc-1024", 4),
 ];
 
-fn refined(name: &str, depth: u64) -> Refined {
-    let refined = Refined::new(handed(&named(name)), depth).expect(name);
-    assert_eq!(refined.levels().count() as u64, depth + 1);
-    refined
+/// Each of them that passes 14, with its name.
+fn refined_with(weight: Weight) -> impl Iterator<Item = (&'static str, Refined)> {
+    let passes = move |(name, _): &(&str, u64)| verdict_with(weight, &named(name)) == (0, 0);
+    let tried = TRIED.into_iter().filter(passes);
+    tried.map(move |(name, depth)| {
+        let refined = Refined::new(handed(&named(name)), depth, chosen(weight)).expect(name);
+        assert_eq!(refined.levels().count() as u64, depth + 1);
+        (name, refined)
+    })
 }
 
 #[test]
 fn every_level_is_accepted_and_keeps_its_counts() {
-    for (name, depth) in TRIED {
+    for (name, refined) in WEIGHTS.into_iter().flat_map(refined_with) {
         let first = check_any_size(&named(name)).expect(name);
-        let refined = refined(name, depth);
         let told = refined.counts();
         for (d, level) in refined.levels().enumerate() {
             let counted = check_any_size(&owned(level)).expect(name);
@@ -62,8 +67,7 @@ fn every_level_is_accepted_and_keeps_its_counts() {
 
 #[test]
 fn vertices_keep_their_corners_and_new_ones_have_six_or_three() {
-    for (name, depth) in TRIED {
-        let refined = refined(name, depth);
+    for (name, refined) in WEIGHTS.into_iter().flat_map(refined_with) {
         let levels: Vec<Vec<Vertex>> = refined
             .levels()
             .map(|level| vertices_of(&owned(level)))

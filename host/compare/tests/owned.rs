@@ -2,9 +2,10 @@
 //! STL written, and all levels of a cage.
 
 use compare::{
-    accepted, file_of, handed, named, refused, room_at, stl_length, Question, SecondProgram,
+    accepted, chosen, file_of, handed, named, refused, room_at, stl_length, verdict_with, Question,
+    SecondProgram, WEIGHTS,
 };
-use ryebadger::{Cage, OwnedCage, Refined};
+use ryebadger::{Cage, OwnedCage, Refined, Refusal, Weight};
 use second::file::read_cage;
 use second::questions::{stl, triangles};
 
@@ -67,7 +68,7 @@ fn assert_stl(name: &str, level: Cage<'_>) {
 #[test]
 fn the_stl_of_a_level_is_what_the_second_program_writes() {
     for entry in accepted().iter().filter(|entry| !entry.is_large()) {
-        let refined = Refined::new(handed(&entry.cage), 4).expect(&entry.name);
+        let refined = Refined::new(handed(&entry.cage), 4, Weight::Short).expect(&entry.name);
         for level in refined.levels() {
             assert_stl(&entry.name, level);
         }
@@ -83,25 +84,35 @@ fn the_stl_of_a_level_is_what_the_second_program_writes() {
     }
 }
 
-/// The levels one after the other are the second program's lent tables.
+/// The levels one after the other.
+fn end_to_end(refined: &Refined) -> second::cage::Cage {
+    let levels: Vec<_> = refined.levels().collect();
+    let twin = levels.iter().map(|level| level.twin).collect::<Vec<_>>();
+    let vert = levels.iter().map(|level| level.vert).collect::<Vec<_>>();
+    let edge = levels.iter().map(|level| level.edge).collect::<Vec<_>>();
+    let points = levels.iter().map(|level| level.points).collect::<Vec<_>>();
+    second::cage::Cage {
+        twin: twin.concat(),
+        vert: vert.concat(),
+        edge: edge.concat(),
+        points: points.concat(),
+    }
+}
+
 #[test]
 fn refined_levels_end_to_end_are_the_second_programs_tables() {
     for entry in accepted().iter().filter(|entry| !entry.is_large()) {
-        for depth in [0, 1, 4] {
-            let room = room_at(&entry.cage, depth);
-            let question = Question::Refine(&entry.cage, depth, room);
-            let judged = question.put_to(&SecondProgram).tables;
-            let refined = Refined::new(handed(&entry.cage), depth).expect(&entry.name);
-            let levels: Vec<_> = refined.levels().collect();
-            assert_eq!(levels.len() as u64, depth + 1);
-            let twin = levels.iter().map(|level| level.twin).collect::<Vec<_>>();
-            let vert = levels.iter().map(|level| level.vert).collect::<Vec<_>>();
-            let edge = levels.iter().map(|level| level.edge).collect::<Vec<_>>();
-            let points = levels.iter().map(|level| level.points).collect::<Vec<_>>();
-            assert_eq!(twin.concat(), judged.twin, "{}", entry.name);
-            assert_eq!(vert.concat(), judged.vert, "{}", entry.name);
-            assert_eq!(edge.concat(), judged.edge, "{}", entry.name);
-            assert_eq!(points.concat(), judged.points, "{}", entry.name);
+        let passes = |weight: &_| verdict_with(*weight, &entry.cage) == (0, 0);
+        for weight in WEIGHTS.into_iter().filter(passes) {
+            for depth in [0, 1, 4] {
+                let room = room_at(&entry.cage, depth);
+                let question = Question::Refine(&entry.cage, depth, weight, room);
+                let judged = question.put_to(&SecondProgram).tables;
+                let refined = Refined::new(handed(&entry.cage), depth, chosen(weight));
+                let refined = refined.expect(&entry.name);
+                assert_eq!(refined.levels().count() as u64, depth + 1);
+                assert_eq!(end_to_end(&refined), judged, "{}", entry.name);
+            }
         }
     }
 }
@@ -109,7 +120,7 @@ fn refined_levels_end_to_end_are_the_second_programs_tables() {
 #[test]
 fn there_is_no_level_past_the_depth() {
     let cage = named("pillow");
-    let refined = Refined::new(handed(&cage), 2).expect("accepted");
+    let refined = Refined::new(handed(&cage), 2, Weight::Paper).expect("accepted");
     assert_eq!(refined.depth(), 2);
     assert!(refined.level(2).is_some());
     for level in [3, 6, 7, usize::MAX] {
@@ -125,10 +136,25 @@ fn refused_cages_and_depths_are_refused_by_number_and_place() {
     let refused = refused.map(|entry| (entry.name, entry.cage, vec![0, 6, 7, u64::MAX]));
     for (name, cage, depths) in refused.chain(["pillow", "cushion"].map(past_the_limit)) {
         for depth in depths {
-            let judged = Question::Refine(&cage, depth, [0; 4]).put_to(&SecondProgram);
-            let refusal = Refined::new(handed(&cage), depth).expect_err(&name);
-            let numbers = (refusal.number().into(), refusal.place().into());
-            assert_eq!(numbers, judged.verdict(), "{name}");
+            for weight in WEIGHTS {
+                let question = Question::Refine(&cage, depth, weight, [0; 4]);
+                let judged = question.put_to(&SecondProgram);
+                let refusal = Refined::new(handed(&cage), depth, chosen(weight));
+                let refusal = refusal.expect_err(&name);
+                let numbers = (refusal.number().into(), refusal.place().into());
+                assert_eq!(numbers, judged.verdict(), "{name}");
+            }
         }
+    }
+}
+
+/// Refusal 14, by its name.
+#[test]
+fn an_inner_vertex_of_too_many_corners_is_refused_with_the_papers_weight() {
+    let cage = named("double-pyramid-33");
+    for depth in [0, 1, 6] {
+        let refusal = Refined::new(handed(&cage), depth, Weight::Paper);
+        assert_eq!(refusal, Err(Refusal::Valence { vertex: 33 }));
+        assert!(Refined::new(handed(&cage), depth, Weight::Short).is_ok());
     }
 }

@@ -1,11 +1,12 @@
-//! Points that document 01 gives itself: P4, P6 and P10, through refining.
+//! Points that the documents give themselves: P4, P6 and P10, through refining.
 
-use compare::{assert_alike, room_at, Question};
+use compare::{assert_alike, room_at, Question, WEIGHTS};
 use second::cage::{Cage, MARKER};
+use second::weight::Weight;
 
 /// The points of level 1, which the host library and the second program share.
-fn level_1(name: &str, cage: &Cage) -> Vec<i32> {
-    let question = Question::Refine(cage, 1, room_at(cage, 1));
+fn level_1(name: &str, cage: &Cage, weight: Weight) -> Vec<i32> {
+    let question = Question::Refine(cage, 1, weight, room_at(cage, 1));
     assert_alike(name, &question).tables.points[cage.points.len()..].to_vec()
 }
 
@@ -29,22 +30,30 @@ fn pillow() -> Cage {
 
 #[test]
 fn p4_the_triangle() {
-    let points = level_1("P4", &triangle([0, 0, 0, 800, 0, 0, 0, 800, 0]));
     let vertices = [100, 100, 0, 600, 100, 0, 100, 600, 0];
     let edges = [400, 0, 0, 400, 400, 0, 0, 400, 0];
-    assert_eq!(points, [vertices, edges].concat());
+    for weight in WEIGHTS {
+        let triangle = triangle([0, 0, 0, 800, 0, 0, 0, 800, 0]);
+        let points = level_1("P4", &triangle, weight);
+        assert_eq!(points, [vertices, edges].concat());
+    }
 }
 
+/// With the paper's weight vertex 0 goes to (5,5,0), and the edge's point stays.
 #[test]
 fn p6_the_pillow() {
-    let points = level_1("P6", &pillow());
-    assert_eq!(points[..3], [3, 3, 0], "vertex 0");
-    assert_eq!(points[9..12], [6, 4, 0], "edge 0");
+    for (weight, point) in [(Weight::Short, [3, 3, 0]), (Weight::Paper, [5, 5, 0])] {
+        let points = level_1("P6", &pillow(), weight);
+        assert_eq!(points[..3], point, "vertex 0");
+        assert_eq!(points[9..12], [6, 4, 0], "edge 0");
+    }
 }
 
 /// 6v+a+b is 12, −12 and −13 in the three coordinates of vertex 0.
 #[test]
 fn p10_the_three_roundings() {
-    let points = level_1("P10", &triangle([2, -2, -2, 0, 0, -1, 0, 0, 0]));
-    assert_eq!(points[..3], [2, -1, -2]);
+    for weight in WEIGHTS {
+        let points = level_1("P10", &triangle([2, -2, -2, 0, 0, -1, 0, 0, 0]), weight);
+        assert_eq!(points[..3], [2, -1, -2]);
+    }
 }

@@ -1,23 +1,30 @@
-//! Refining: the answer and every cell of the four lent tables.
+//! Refining with either weight: the answer and every cell of the four lent
+//! tables.
+
+use std::collections::{HashMap, HashSet};
 
 use compare::{
-    accepted, assert_alike, named, refused, room_at, vertices_of, Outcome, Question, Vertex,
+    accepted, assert_alike, named, refused, room_at, verdict_with, vertices_of, Outcome, Question,
+    Vertex, WEIGHTS,
 };
+use second::cage::Cage;
 use second::suite::SuiteCage;
+use second::weight::Weight;
 
-/// Every accepted cage at every depth, into tables of which one is as long as
+const EVERY_DEPTH: [u64; 7] = [0, 1, 2, 3, 4, 5, 6];
+
+/// An accepted cage at these depths, into tables of which one is as long as
 /// needed and the others are longer.
-fn at_every_depth(entries: &[SuiteCage]) {
-    for entry in entries {
-        for depth in 0..=6 {
-            let mut longer = [0, 1, 2, 7];
-            longer.rotate_left(depth as usize % 4);
-            let room = room_at(&entry.cage, depth);
-            let lengths = std::array::from_fn(|table| room[table] + longer[table]);
-            let question = Question::Refine(&entry.cage, depth, lengths);
-            let outcome = assert_alike(&entry.name, &question);
-            assert_eq!(outcome.verdict(), (0, 0), "{}", entry.name);
-        }
+fn at_depths(entry: &SuiteCage, weight: Weight, depths: &[u64]) {
+    let expected = verdict_with(weight, &entry.cage);
+    for &depth in depths {
+        let mut longer = [0, 1, 2, 7];
+        longer.rotate_left(depth as usize % 4);
+        let room = room_at(&entry.cage, depth);
+        let lengths = std::array::from_fn(|table| room[table] + longer[table]);
+        let question = Question::Refine(&entry.cage, depth, weight, lengths);
+        let outcome = assert_alike(&entry.name, &question);
+        assert_eq!(outcome.verdict(), expected, "{}", entry.name);
     }
 }
 
@@ -26,7 +33,23 @@ fn every_small_accepted_cage_at_every_depth() {
     let mut entries = accepted();
     entries.retain(|entry| !entry.is_large());
     assert!(entries.len() > 150);
-    at_every_depth(&entries);
+    for entry in &entries {
+        for weight in WEIGHTS {
+            at_depths(entry, weight, &EVERY_DEPTH);
+        }
+    }
+}
+
+/// Large levels take long. With the paper's weight, which has a part in the
+/// points alone, cages under other numbers do not go as deep.
+fn large_at_depths(entry: &SuiteCage) {
+    at_depths(entry, Weight::Short, &EVERY_DEPTH);
+    let deepest = if entry.name.ends_with("-disguised") {
+        4
+    } else {
+        6
+    };
+    at_depths(entry, Weight::Paper, &[0, 3, deepest]);
 }
 
 #[test]
@@ -35,10 +58,11 @@ fn every_large_accepted_cage_at_every_depth() {
     entries.retain(SuiteCage::is_large);
     let of_most_halfedges = |entry: &&SuiteCage| entry.cage.halfedge_count() == 3_072;
     assert!(entries.iter().filter(of_most_halfedges).count() > 3);
-    let (first, second) = entries.split_at(entries.len() / 2);
     std::thread::scope(|scope| {
-        scope.spawn(|| at_every_depth(first));
-        scope.spawn(|| at_every_depth(second));
+        for first in [0, 1] {
+            let every_other = entries.iter().skip(first).step_by(2);
+            scope.spawn(|| every_other.for_each(large_at_depths));
+        }
     });
 }
 
@@ -49,9 +73,11 @@ fn every_refused_cage_at_three_depths_and_past_the_limit() {
     for entry in &entries {
         for depth in [0, 1, 6, 7, u64::MAX] {
             for lengths in [[40, 41, 42, 43], [0; 4]] {
-                let question = Question::Refine(&entry.cage, depth, lengths);
-                let outcome = assert_alike(&entry.name, &question);
-                assert_ne!(outcome.verdict().0, 0, "{}", entry.name);
+                for weight in WEIGHTS {
+                    let question = Question::Refine(&entry.cage, depth, weight, lengths);
+                    let outcome = assert_alike(&entry.name, &question);
+                    assert_ne!(outcome.verdict().0, 0, "{}", entry.name);
+                }
             }
         }
     }
@@ -62,53 +88,69 @@ fn accepted_cages_past_the_limit_of_the_depth() {
     for name in ["triangle", "pillow", "cushion", "torus-32x16"] {
         let cage = named(name);
         for depth in [7, 8, 1 << 32, (1 << 32) + 1, 1 << 63, u64::MAX] {
-            let question = Question::Refine(&cage, depth, room_at(&cage, 1));
-            assert_eq!(assert_alike(name, &question).verdict(), (2, 0), "{name}");
+            for weight in WEIGHTS {
+                let question = Question::Refine(&cage, depth, weight, room_at(&cage, 1));
+                assert_eq!(assert_alike(name, &question).verdict(), (2, 0), "{name}");
+            }
         }
     }
 }
 
-const ROOM_TRIED: [&str; 5] = ["triangle", "pillow", "strip-2", "disc-33", "torus-3x3"];
+/// The last of them with the short weight alone: with the paper's it is refused
+/// before its room is looked at.
+const ROOM_TRIED: [(&str, &[Weight]); 5] = [
+    ("triangle", &WEIGHTS),
+    ("pillow", &WEIGHTS),
+    ("strip-2", &WEIGHTS),
+    ("torus-3x3", &WEIGHTS),
+    ("disc-33", &[Weight::Short]),
+];
 
-#[test]
-fn room_exact_and_one_short_table_by_table() {
-    for name in ROOM_TRIED {
+/// Each of them with its weights at these depths, and the exact room there.
+fn each_room(depths: &[u64], tried: impl Fn(&str, &Cage, u64, Weight, [usize; 4])) {
+    for (name, weights) in ROOM_TRIED {
         let cage = named(name);
-        for depth in 0..=6 {
-            let exact = room_at(&cage, depth);
-            let refined = |lengths| assert_alike(name, &Question::Refine(&cage, depth, lengths));
-            assert_eq!(refined(exact).verdict(), (0, 0), "{name}");
-            for table in 0..4 {
-                let mut short = exact;
-                short[table] -= 1;
-                let place = table as u64 + 1;
-                assert_eq!(refined(short).verdict(), (9, place), "{name}");
+        for &depth in depths {
+            for &weight in weights {
+                tried(name, &cage, depth, weight, room_at(&cage, depth));
             }
         }
     }
+}
+
+#[test]
+fn room_exact_and_one_short_table_by_table() {
+    each_room(&EVERY_DEPTH, |name, cage, depth, weight, exact| {
+        let refined = |lengths| {
+            let question = Question::Refine(cage, depth, weight, lengths);
+            assert_alike(name, &question).verdict()
+        };
+        assert_eq!(refined(exact), (0, 0), "{name}");
+        for table in 0..4 {
+            let mut short = exact;
+            short[table] -= 1;
+            assert_eq!(refined(short), (9, table as u64 + 1), "{name}");
+        }
+    });
 }
 
 #[test]
 fn several_tables_short_at_once() {
-    for name in ROOM_TRIED {
-        let cage = named(name);
-        for depth in [0, 1, 3] {
-            let exact = room_at(&cage, depth);
-            // Each of the four tables is enough, one short or empty.
-            for choice in 0..81_usize {
-                let choices = [choice / 27, choice / 9 % 3, choice / 3 % 3, choice % 3];
-                let lengths = std::array::from_fn(|table| match choices[table] {
-                    0 => exact[table],
-                    1 => exact[table] - 1,
-                    _ => 0,
-                });
-                let place = choices.iter().position(|&choice| choice != 0);
-                let expected = place.map_or((0, 0), |table| (9, table as u64 + 1));
-                let question = Question::Refine(&cage, depth, lengths);
-                assert_eq!(assert_alike(name, &question).verdict(), expected);
-            }
+    each_room(&[0, 1, 3], |name, cage, depth, weight, exact| {
+        // Each of the four tables is enough, one short or empty.
+        for choice in 0..81_usize {
+            let choices = [choice / 27, choice / 9 % 3, choice / 3 % 3, choice % 3];
+            let lengths = std::array::from_fn(|table| match choices[table] {
+                0 => exact[table],
+                1 => exact[table] - 1,
+                _ => 0,
+            });
+            let place = choices.iter().position(|&choice| choice != 0);
+            let expected = place.map_or((0, 0), |table| (9, table as u64 + 1));
+            let question = Question::Refine(cage, depth, weight, lengths);
+            assert_eq!(assert_alike(name, &question).verdict(), expected);
         }
-    }
+    });
 }
 
 /// What the comparison above is about is really in the suite.
@@ -156,6 +198,31 @@ fn the_suite_has_each_kind_of_cage() {
     }
 }
 
+/// Inside closed cages and open ones every valence that the paper's weight has
+/// an entry for and more, and on borders too, under two numberings.
+#[test]
+fn the_suite_has_every_valence() {
+    let mut found: HashMap<(bool, bool, usize), usize> = HashMap::new();
+    for entry in accepted() {
+        let is_closed = entry.cage.border_count() == 0;
+        let vertices = vertices_of(&entry.cage);
+        let kind = |vertex: &Vertex| (is_closed, vertex.is_on_border(), vertex.corners);
+        for kind in vertices.iter().map(kind).collect::<HashSet<_>>() {
+            *found.entry(kind).or_default() += 1;
+        }
+    }
+    let cages = |is_closed, on_border, corners| found.get(&(is_closed, on_border, corners));
+    for corners in (2..=33).chain([512]) {
+        assert!(cages(true, false, corners) >= Some(&2), "{corners}");
+    }
+    for corners in (2..=33).chain([1_024]) {
+        assert!(cages(false, false, corners) >= Some(&2), "{corners}");
+    }
+    for corners in [1, 2, 3, 33, 40, 1_024] {
+        assert!(cages(false, true, corners) >= Some(&2), "{corners}");
+    }
+}
+
 /// Cages that are accepted with every coordinate turned negative.
 #[test]
 fn negative_coordinates_everywhere() {
@@ -164,9 +231,12 @@ fn negative_coordinates_everywhere() {
         for coordinate in &mut cage.points {
             *coordinate = -1 - coordinate.abs() / 2;
         }
-        let question = Question::Refine(&cage, 3, room_at(&cage, 3));
-        let Outcome { answer, tables, .. } = assert_alike(&entry.name, &question);
-        assert_eq!(answer[0], 0);
-        assert!(tables.points.iter().all(|&coordinate| coordinate < 0));
+        for weight in WEIGHTS {
+            let question = Question::Refine(&cage, 3, weight, room_at(&cage, 3));
+            let outcome = assert_alike(&entry.name, &question);
+            assert_eq!(outcome.verdict(), verdict_with(weight, &cage));
+            let Outcome { tables, .. } = outcome;
+            assert!(tables.points.iter().all(|&coordinate| coordinate < 0));
+        }
     }
 }

@@ -2,7 +2,7 @@
 //! of the suite's cages and for corners and points of any numbers.
 
 use compare::{accepted, assert_alike, handed, named, stl_length, Outcome, Question};
-use ryebadger::Refined;
+use ryebadger::{Refined, Weight};
 use second::cage::{Cage, COORDINATE_LIMIT, MARKER};
 use second::questions::stl::{long_questions, questions};
 use second::stl::VERT_LIMIT;
@@ -44,7 +44,7 @@ fn written_into_each_room(name: &str, vert: &[u32], points: &[i32]) -> Outcome {
 /// Every level of a cage down to a depth, each from its own part of the refined
 /// tables, into a buffer that is as long as needed or a little longer.
 fn at_every_level(name: &str, cage: &Cage, depth: u64) {
-    let refined = Refined::new(handed(cage), depth).expect(name);
+    let refined = Refined::new(handed(cage), depth, Weight::Short).expect(name);
     assert_eq!(refined.levels().count() as u64, depth + 1);
     for (longer, level) in refined.levels().enumerate() {
         let length = stl_length(level.vert);

@@ -9,7 +9,7 @@
 //! |---|---|
 //! | check a cage | [`check`] |
 //! | quote the counts of all levels, and the room | [`counts`] |
-//! | refine a cage | [`Refined::new`], or [`refine`] into lent tables |
+//! | refine a cage with a [`Weight`] | [`Refined::new`], or [`refine`] into lent tables |
 //! | get a triangle's corners | [`corners`] |
 //! | read a cage file | [`OwnedCage::read`], or [`read`] into lent tables |
 //! | write a cage file | [`Cage::to_file`], or [`write()`] into a lent buffer |
@@ -21,11 +21,11 @@
 //! program, as Rust does, where memory is short.
 //!
 //! ```
-//! use ryebadger::{OwnedCage, Refined};
+//! use ryebadger::{OwnedCage, Refined, Weight};
 //!
 //! fn finest(file: &[u8]) -> Result<Vec<i32>, ryebadger::Refusal> {
 //!     let cage = OwnedCage::read(file)?;
-//!     let refined = Refined::new(cage.as_cage(), 6)?;
+//!     let refined = Refined::new(cage.as_cage(), 6, Weight::Paper)?;
 //!     Ok(refined.level(6).unwrap_or_default().points.to_vec())
 //! }
 //!
@@ -38,6 +38,7 @@ mod operations;
 mod owned;
 mod refusal;
 pub mod sys;
+mod weight;
 
 pub use cage::{
     Cage, LentTables, OwnedCage, COORDINATE_LIMIT, DEPTH_LIMIT, HALFEDGE_LIMIT, LONGEST_TABLE,
@@ -49,3 +50,4 @@ pub use operations::{
 };
 pub use owned::{Refined, LONGEST_FILE};
 pub use refusal::{Refusal, Table};
+pub use weight::{Weight, CORNER_LIMIT};

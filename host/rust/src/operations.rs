@@ -4,7 +4,7 @@
 //! it. A refusal leaves every lent cell as it was.
 
 use crate::cage::DEPTH_LIMIT;
-use crate::{sys, Cage, LentTables, Refusal};
+use crate::{sys, Cage, LentTables, Refusal, Weight};
 
 /// How many levels the deepest refinement has, level 0 among them.
 pub const LEVELS: usize = DEPTH_LIMIT + 1;
@@ -93,16 +93,18 @@ pub fn counts(
     counted(&answer)
 }
 
-/// Refining: levels 0 to the depth end to end at the front of the lent tables,
-/// level 0 being the cage. Cells past the room are untouched. Gives refusals 1
-/// to 9. [`Refined`](crate::Refined) has the room found and allocated.
+/// Refining with a weight: levels 0 to the depth end to end at the front of the
+/// lent tables, level 0 being the cage. Cells past the room are untouched. Gives
+/// refusals 1 to 9 and, with the paper's weight, 14 after 7 and before 8.
+/// [`Refined`](crate::Refined) has the room found and allocated.
 pub fn refine(
     cage: Cage<'_>,
     depth: u64,
+    weight: Weight,
     lent: &mut LentTables<'_>,
 ) -> Result<LevelCounts, Refusal> {
     let mut answer = [0; sys::COUNTS_ANSWER];
-    sys::refine(cage, depth, lent, &mut answer);
+    sys::refine(cage, depth, weight as u32, lent, &mut answer);
     counted(&answer)
 }
 

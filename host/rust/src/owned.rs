@@ -8,7 +8,7 @@ use crate::operations::{
     build, check, counts, read, refine, stl_length, write, write_stl, CageCounts, LevelCounts,
     LEVELS,
 };
-use crate::{Cage, OwnedCage, Refusal};
+use crate::{Cage, OwnedCage, Refusal, Weight};
 
 /// The bytes of the longest cage file.
 pub const LONGEST_FILE: usize = 24 + 6 * HALFEDGE_LIMIT + 12 * VERTEX_LIMIT;
@@ -32,13 +32,14 @@ impl OwnedCage {
     /// order.
     ///
     /// ```
-    /// use ryebadger::{OwnedCage, Refined};
+    /// use ryebadger::{OwnedCage, Refined, Weight};
     ///
     /// let triangles = [[0, 1, 2], [0, 2, 3], [0, 3, 1], [1, 3, 2]];
     /// let points = [[0, 0, 0], [900, 0, 0], [0, 900, 0], [0, 0, 900]];
     /// let cage = OwnedCage::from_triangles(triangles.as_flattened(), points.as_flattened())?;
     /// assert_eq!(cage.twin[..3], [8, 11, 3]);
-    /// assert_eq!(Refined::new(cage.as_cage(), 6)?.counts().halfedges[6], 12 << 12);
+    /// let refined = Refined::new(cage.as_cage(), 6, Weight::Paper)?;
+    /// assert_eq!(refined.counts().halfedges[6], 12 << 12);
     ///
     /// let twice = [[0, 1, 2], [3, 0, 1]];
     /// let refusal = OwnedCage::from_triangles(twice.as_flattened(), points.as_flattened());
@@ -72,11 +73,11 @@ impl Cage<'_> {
     /// points alone. Gives refusals 1, 2, 4 and 8.
     ///
     /// ```
-    /// use ryebadger::{OwnedCage, Refined};
+    /// use ryebadger::{OwnedCage, Refined, Weight};
     ///
     /// let points = [0, 0, 0, 16, 0, 0, 0, 16, 0];
     /// let pillow = OwnedCage::from_triangles(&[0, 1, 2, 0, 2, 1], &points)?;
-    /// let refined = Refined::new(pillow.as_cage(), 6)?;
+    /// let refined = Refined::new(pillow.as_cage(), 6, Weight::Paper)?;
     /// let finest = refined.levels().last().unwrap_or_default();
     /// assert_eq!(finest.to_stl()?.len(), 84 + 50 * (2 << 12));
     /// # Ok::<(), ryebadger::Refusal>(())
@@ -94,7 +95,7 @@ impl Cage<'_> {
 /// All levels of a cage, from 0 to a depth.
 ///
 /// ```
-/// use ryebadger::{Cage, Refined, MARKER};
+/// use ryebadger::{Cage, Refined, Weight, MARKER};
 ///
 /// // Document 01's triangle, P1 to P4.
 /// let triangle = Cage {
@@ -103,7 +104,7 @@ impl Cage<'_> {
 ///     edge: &[0, 1, 2],
 ///     points: &[0, 0, 0, 800, 0, 0, 0, 800, 0],
 /// };
-/// let refined = Refined::new(triangle, 6)?;
+/// let refined = Refined::new(triangle, 6, Weight::Short)?;
 /// let level = refined.level(1).unwrap();
 /// assert_eq!(level.vert, [0, 3, 5, 1, 4, 3, 2, 5, 4, 5, 3, 4]);
 /// assert_eq!(level.points[..3], [100, 100, 0]);
@@ -118,13 +119,14 @@ pub struct Refined {
 }
 
 impl Refined {
-    /// Quotes the room, allocates it, and refines. Gives refusals 1 to 8.
-    pub fn new(cage: Cage<'_>, depth: u64) -> Result<Refined, Refusal> {
+    /// Quotes the room, allocates it, and refines with a weight. Gives refusals
+    /// 1 to 8 and, with the paper's weight, 14 after 7 and before 8.
+    pub fn new(cage: Cage<'_>, depth: u64, weight: Weight) -> Result<Refined, Refusal> {
         // Where the quote is refused so is refining, which has all checks in
         // their order; it needs no room for that.
         let (halfedges, vertices) = quoted_room(cage, depth).unwrap_or_default();
         let mut tables = OwnedCage::with_room(halfedges, vertices);
-        let counts = refine(cage, depth, &mut tables.lend())?;
+        let counts = refine(cage, depth, weight, &mut tables.lend())?;
         Ok(Refined {
             tables,
             counts,

@@ -72,6 +72,11 @@ pub enum Refusal {
         /// The lowest that has such a double.
         halfedge: u32,
     },
+    /// 14: an inner vertex has more corners than the paper's weight is for.
+    Valence {
+        /// The lowest such vertex.
+        vertex: u32,
+    },
     /// A number or a place that the documents do not have. The proved archive
     /// never gives it.
     Unknown {
@@ -123,6 +128,7 @@ impl Refusal {
             (11, offset) => Refusal::Field { offset },
             (12, offset) => Refusal::Extra { offset },
             (13, halfedge) => Refusal::Doubled { halfedge },
+            (14, vertex) => Refusal::Valence { vertex },
             _ => Refusal::Unknown { number, place },
         }
     }
@@ -143,6 +149,7 @@ impl Refusal {
             Refusal::Field { offset } => (11, offset, "FIELD"),
             Refusal::Extra { offset } => (12, offset, "EXTRA"),
             Refusal::Doubled { halfedge } => (13, halfedge, "DOUBLED"),
+            Refusal::Valence { vertex } => (14, vertex, "VALENCE"),
             Refusal::Unknown { number, place } => (number, place, "UNKNOWN"),
         }
     }
@@ -180,7 +187,7 @@ mod tests {
     /// have.
     #[test]
     fn number_and_place_are_kept() {
-        for number in 1..=14 {
+        for number in 1..=15 {
             for place in [0, 1, 2, 3, 4, 5, 6, 7, 43_032, u32::MAX] {
                 let refusal = Refusal::told(number, place);
                 assert_eq!((refusal.number(), refusal.place()), (number, place));
@@ -211,7 +218,7 @@ mod tests {
     fn names_stand_in_the_documents_order() {
         let names = [
             "SHAPE", "LIMIT", "TWIN", "VERTEX", "UNUSED", "EDGE", "FAN", "POINT", "ROOM", "SHORT",
-            "FIELD", "EXTRA", "DOUBLED",
+            "FIELD", "EXTRA", "DOUBLED", "VALENCE",
         ];
         for (number, name) in (1..).zip(names) {
             let place = u32::from(number == 9);

@@ -40,7 +40,7 @@ extern "C" {
     fn ryebadger_refine(
         twin: *const u32, twin_length: usize, vert: *const u32, vert_length: usize,
         edge: *const u32, edge_length: usize, points: *const i32, points_length: usize,
-        depth: u64,
+        depth: u64, weight: u32,
         lent_twin: *mut u32, lent_twin_length: usize, lent_vert: *mut u32, lent_vert_length: usize,
         lent_edge: *mut u32, lent_edge_length: usize, lent_points: *mut i32, lent_points_length: usize,
         answer: *mut u32,
@@ -98,11 +98,13 @@ pub fn counts(
     unsafe { ryebadger_counts(halfedges, edges, vertices, depth, answer.as_mut_ptr()) }
 }
 
-/// Refining.
+/// Refining. The weight is 0 for the short one, any other number for the
+/// paper's.
 #[rustfmt::skip]
 pub fn refine(
     cage: Cage<'_>,
     depth: u64,
+    weight: u32,
     lent: &mut LentTables<'_>,
     answer: &mut [u32; COUNTS_ANSWER],
 ) {
@@ -110,7 +112,7 @@ pub fn refine(
         ryebadger_refine(
             cage.twin.as_ptr(), cage.twin.len(), cage.vert.as_ptr(), cage.vert.len(),
             cage.edge.as_ptr(), cage.edge.len(), cage.points.as_ptr(), cage.points.len(),
-            depth,
+            depth, weight,
             lent.twin.as_mut_ptr(), lent.twin.len(), lent.vert.as_mut_ptr(), lent.vert.len(),
             lent.edge.as_mut_ptr(), lent.edge.len(), lent.points.as_mut_ptr(), lent.points.len(),
             answer.as_mut_ptr(),

@@ -2,11 +2,22 @@
 
 use ryebadger::sys;
 use second::cage::Cage;
+use second::weight::Weight;
 
 use super::{handed, lent, Operations};
 
-/// The proved archive, through its raw functions.
-pub struct Archive;
+/// The proved archive, through its raw functions. It takes any number but 0 for
+/// the paper's weight, and is handed this one.
+pub struct Archive {
+    pub paper: u32,
+}
+
+impl Default for Archive {
+    /// With the header's number.
+    fn default() -> Archive {
+        Archive { paper: 1 }
+    }
+}
 
 /// An answer whose cells hold something beforehand: all of them have to be
 /// written.
@@ -29,8 +40,12 @@ impl Operations for Archive {
         answered(|answer| sys::corners(vert, triangle, answer))
     }
 
-    fn refine(&self, cage: &Cage, depth: u64, tables: &mut Cage) -> Vec<u64> {
-        answered(|answer| sys::refine(handed(cage), depth, &mut lent(tables), answer))
+    fn refine(&self, cage: &Cage, depth: u64, weight: Weight, tables: &mut Cage) -> Vec<u64> {
+        let number = match weight {
+            Weight::Short => 0,
+            Weight::Paper => self.paper,
+        };
+        answered(|answer| sys::refine(handed(cage), depth, number, &mut lent(tables), answer))
     }
 
     fn read(&self, file: &[u8], tables: &mut Cage) -> Vec<u64> {

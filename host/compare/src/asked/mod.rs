@@ -6,6 +6,7 @@ mod safe_crate;
 mod second_program;
 
 use second::cage::Cage;
+use second::weight::Weight;
 
 pub use archive::Archive;
 pub use safe_crate::SafeCrate;
@@ -17,7 +18,7 @@ pub trait Operations {
     fn check(&self, cage: &Cage) -> Vec<u64>;
     fn counts(&self, numbers: [u64; 4]) -> Vec<u64>;
     fn corners(&self, vert: &[u32], triangle: u64) -> Vec<u64>;
-    fn refine(&self, cage: &Cage, depth: u64, lent: &mut Cage) -> Vec<u64>;
+    fn refine(&self, cage: &Cage, depth: u64, weight: Weight, lent: &mut Cage) -> Vec<u64>;
     fn read(&self, file: &[u8], lent: &mut Cage) -> Vec<u64>;
     fn write(&self, cage: &Cage, lent_file: &mut [u8]) -> Vec<u64>;
     /// Only TWIN and EDGE are lent.
@@ -32,6 +33,14 @@ pub fn handed(cage: &Cage) -> ryebadger::Cage<'_> {
         vert: &cage.vert,
         edge: &cage.edge,
         points: &cage.points,
+    }
+}
+
+/// The second program's weight, as the safe crate takes it.
+pub fn chosen(weight: Weight) -> ryebadger::Weight {
+    match weight {
+        Weight::Short => ryebadger::Weight::Short,
+        Weight::Paper => ryebadger::Weight::Paper,
     }
 }
 

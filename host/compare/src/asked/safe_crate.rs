@@ -2,8 +2,9 @@
 
 use ryebadger::{CageCounts, LevelCounts, Refusal};
 use second::cage::Cage;
+use second::weight::Weight;
 
-use super::{handed, lent, level_numbers, told, Operations};
+use super::{chosen, handed, lent, level_numbers, told, Operations};
 
 /// The safe crate, whose named results are told as numbers again.
 pub struct SafeCrate;
@@ -21,8 +22,8 @@ impl Operations for SafeCrate {
         answer(ryebadger::corners(vert, triangle))
     }
 
-    fn refine(&self, cage: &Cage, depth: u64, tables: &mut Cage) -> Vec<u64> {
-        let counts = ryebadger::refine(handed(cage), depth, &mut lent(tables));
+    fn refine(&self, cage: &Cage, depth: u64, weight: Weight, tables: &mut Cage) -> Vec<u64> {
+        let counts = ryebadger::refine(handed(cage), depth, chosen(weight), &mut lent(tables));
         answer(counts.map(counts_numbers))
     }
 

@@ -10,6 +10,7 @@ use second::refine::refine;
 use second::refusal::Refusal;
 use second::stl::write_stl;
 use second::tables::LentTables;
+use second::weight::Weight;
 
 use super::{level_numbers, told, Operations};
 
@@ -30,8 +31,8 @@ impl Operations for SecondProgram {
         answer(corners.map(|corners| corners.map(u64::from)))
     }
 
-    fn refine(&self, cage: &Cage, depth: u64, tables: &mut Cage) -> Vec<u64> {
-        answer(refine(cage, depth, &mut lent(tables)).map(counts_numbers))
+    fn refine(&self, cage: &Cage, depth: u64, weight: Weight, tables: &mut Cage) -> Vec<u64> {
+        answer(refine(cage, depth, weight, &mut lent(tables)).map(counts_numbers))
     }
 
     fn read(&self, file: &[u8], tables: &mut Cage) -> Vec<u64> {

@@ -1,17 +1,17 @@
 //! `picture FILE`: prints levels 0 to 3 of a cage file's cage as an SVG. What
-//! is drawn is what refining wrote. `docs/levels.svg` is printed from
-//! `cages/coarse-cushion.cage`.
+//! is drawn is what refining wrote, with the short weight. `docs/levels.svg` is
+//! printed from `cages/coarse-cushion.cage`.
 
 mod drawing;
 
 use std::error::Error;
 
-use ryebadger::{OwnedCage, Refined};
+use ryebadger::{OwnedCage, Refined, Weight};
 
 fn main() -> Result<(), Box<dyn Error>> {
     let path = std::env::args_os().nth(1).ok_or("usage: picture FILE")?;
     let cage = OwnedCage::read(&std::fs::read(path)?)?;
-    let refined = Refined::new(cage.as_cage(), 3)?;
+    let refined = Refined::new(cage.as_cage(), 3, Weight::Short)?;
     print!("{}", drawing::svg(&refined));
     Ok(())
 }
