@@ -94,9 +94,20 @@ inline void store(int32_t* points, size_t v, Point p) {
 
 inline void add(int32_t* sums, uint32_t v, Point p) { store(sums, v, load(sums, v) + p); }
 
-inline int32_t place_of(int64_t corners, int64_t vertex, int64_t sum) {
+inline int32_t short_place(int64_t corners, int64_t vertex, int64_t sum) {
   const int64_t top = 10 * corners * vertex + 6 * sum + 8 * corners, bottom = 16 * corners;
   return int32_t(top < 0 ? -1 - (-1 - top) / bottom : top / bottom);
+}
+
+inline int32_t paper_place(int64_t corners, int64_t vertex, int64_t sum) {
+  const int64_t w = kPaperTable[corners];
+  return int32_t(((kParts - corners * w) * vertex + w * sum + kParts / 2) >> 24);
+}
+
+// A border vertex may have one corner, or more than the table has. Its place here is not its own, and only has to be in range.
+inline int32_t place_of(Weight weight, uint32_t corners, int32_t vertex, int32_t sum) {
+  const bool in_table = corners >= 2 && corners <= kMostCorners;
+  return weight == Weight::kPaper && in_table ? paper_place(corners, vertex, sum) : short_place(corners, vertex, sum);
 }
 
 // Each vertex's corners, which a cage's vertices keep.
@@ -106,11 +117,11 @@ inline std::vector<uint32_t> count_corners(const Cage& cage) {
   return corners;
 }
 
-// Sums become places as if no vertex lay on the border. Those added to the cage have six corners.
-inline void settle(const std::vector<uint32_t>& corners, const int32_t* __restrict points, int32_t* __restrict sums,
-                   size_t cells) {
+// Sums become places as if no vertex lay on the border. Those added to the cage have six corners, where both weights are 1/16.
+inline void settle(Weight weight, const std::vector<uint32_t>& corners, const int32_t* __restrict points,
+                   int32_t* __restrict sums, size_t cells) {
   const size_t own = 3 * corners.size();
-  for (size_t i = 0; i < own; ++i) sums[i] = place_of(corners[i / 3], points[i], sums[i]);
+  for (size_t i = 0; i < own; ++i) sums[i] = place_of(weight, corners[i / 3], points[i], sums[i]);
   for (size_t i = own; i < cells; ++i) sums[i] = (10 * points[i] + sums[i] + 8) >> 4;
 }
 
@@ -124,10 +135,10 @@ inline void add_edge(int32_t* edge_points, uint32_t e, bool higher, Point a, Poi
 
 // All levels, with put_points(level, vertex points, edge points) for the points of the next one. It finds the first made 0.
 template <class PutPoints>
-void refine_above(const Cage& cage, int depth, Tables& lent, PutPoints put_points) {
+void refine_above(const Cage& cage, int depth, Weight weight, Tables& lent, PutPoints put_points) {
   each_level(cage, depth, lent, [&](const Level& old, const Room& fresh) {
     const Counts n = old.counts;
-    if (n.halfedges == cage.twin.size()) return next_plain(old, fresh);
+    if (n.halfedges == cage.twin.size()) return next_plain(old, weight, fresh);
     next_twins(old.twin, fresh.twin, n.halfedges);
     next_verts(old.vert, old.edge, fresh.vert, n);
     next_edges(old.twin, old.edge, fresh.edge, n);

@@ -1,6 +1,7 @@
 #include "cages.h"
 
 #include <cmath>
+#include <cstring>
 #include <map>
 #include <utility>
 
@@ -25,19 +26,31 @@ Cage sewn(const std::vector<uint32_t>& corners) {
   return cage;
 }
 
-// Squares of two triangles each; a grid as high or as wide as its squares closes on itself that way.
-Cage grid(uint32_t columns, uint32_t high, uint32_t wide) {
+// Squares of two triangles each; a grid as high or as wide as its squares closes on itself that way. Crossed, every other
+// square is cut the other way, which is to start from its next corner.
+Cage grid(uint32_t columns, uint32_t high, uint32_t wide, bool crossed = false) {
   const auto at = [=](uint32_t row, uint32_t column) { return row % high * wide + column % wide; };
   std::vector<uint32_t> corners;
   for (uint32_t r = 0; r < kRows; ++r)
-    for (uint32_t c = 0; c < columns; ++c)
-      for (uint32_t corner : {at(r, c), at(r, c + 1), at(r + 1, c + 1), at(r, c), at(r + 1, c + 1), at(r + 1, c)})
-        corners.push_back(corner);
+    for (uint32_t c = 0; c < columns; ++c) {
+      const uint32_t square[] = {at(r, c), at(r, c + 1), at(r + 1, c + 1), at(r + 1, c)};
+      const uint32_t first = crossed ? (r + c) % 2 : 0;
+      for (uint32_t i : {0, 1, 2, 0, 2, 3}) corners.push_back(square[(first + i) % 4]);
+    }
   return sewn(corners);
 }
 
 void add_point(Cage& cage, double x, double y, double z) {
   for (double millimetres : {x, y, z}) cage.points.push_back(int32_t(std::lround(1024 * millimetres)));
+}
+
+Cage torus_of(Cage cage, uint32_t columns) {
+  for (uint32_t r = 0; r < kRows; ++r)
+    for (uint32_t c = 0; c < columns; ++c) {
+      const double around = kTurn * c / columns, across = kTurn * r / kRows, out = 140 + 60 * std::cos(across);
+      add_point(cage, out * std::cos(around), out * std::sin(around), 60 * std::sin(across));
+    }
+  return cage;
 }
 
 }  // namespace
@@ -56,15 +69,14 @@ Tables lent_tables(Counts counts) {
   return {table, table, table, std::vector<int32_t>(points)};
 }
 
-Cage torus(uint32_t columns) {
-  Cage cage = grid(columns, kRows, columns);
-  for (uint32_t r = 0; r < kRows; ++r)
-    for (uint32_t c = 0; c < columns; ++c) {
-      const double around = kTurn * c / columns, across = kTurn * r / kRows, out = 140 + 60 * std::cos(across);
-      add_point(cage, out * std::cos(around), out * std::sin(around), 60 * std::sin(across));
-    }
-  return cage;
+void fill(Tables& lent) {
+  for (auto* table : {&lent.twin, &lent.vert, &lent.edge}) std::memset(table->data(), 0xab, 4 * table->size());
+  std::memset(lent.points.data(), 0xab, 4 * lent.points.size());
 }
+
+Cage torus(uint32_t columns) { return torus_of(grid(columns, kRows, columns), columns); }
+
+Cage crossed_torus(uint32_t columns) { return torus_of(grid(columns, kRows, columns, true), columns); }
 
 Cage sheet(uint32_t columns) {
   Cage cage = grid(columns, kRows + 1, columns + 1);
@@ -84,5 +96,21 @@ Cage wheel(uint32_t triangles) {
   add_point(cage, 0, 0, 30);
   for (uint32_t i = 0; i < triangles; ++i)
     add_point(cage, 200 * std::cos(kTurn * i / triangles), 200 * std::sin(kTurn * i / triangles), 0);
+  return cage;
+}
+
+Cage double_pyramid(uint32_t corners) {
+  std::vector<uint32_t> all;
+  for (uint32_t i = 0; i < corners; ++i) {
+    const uint32_t rim = 2 + i, after = 2 + (i + 1) % corners;
+    all.insert(all.end(), {0, rim, after, 1, after, rim});
+  }
+  Cage cage = sewn(all);
+  add_point(cage, 11, -7, 160);
+  add_point(cage, -23, 5, -90);
+  for (uint32_t i = 0; i < corners; ++i) {
+    const double around = kTurn * (i + 0.3 * std::sin(i)) / corners, out = 150 + 40 * std::cos(2.7 * i);
+    add_point(cage, out * std::cos(around), out * std::sin(around), 30 * std::sin(1.9 * i));
+  }
   return cage;
 }

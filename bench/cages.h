@@ -35,11 +35,20 @@ struct Cage : Tables {
 // Lent tables of the room for full depth and a few cells past it, which are to stay.
 Tables lent_tables(Counts counts);
 
+// Every byte made the same, so that what is not written shows.
+void fill(Tables& lent);
+
 // 16 by columns squares of two triangles each: a torus 400 mm wide, every vertex of six corners.
 Cage torus(uint32_t columns);
+
+// The same with every other square cut the other way: vertices of four corners and of eight in turn.
+Cage crossed_torus(uint32_t columns);
 
 // As many squares in a sheet of 400 mm by 200 mm, slightly hollow, with a border.
 Cage sheet(uint32_t columns);
 
 // Triangles round one inner vertex.
 Cage wheel(uint32_t triangles);
+
+// Two vertices of so many corners on one rim, whose vertices have four. Its points are irregular.
+Cage double_pyramid(uint32_t corners);

@@ -4,6 +4,7 @@
 #include <algorithm>
 
 #include "cages.h"
+#include "weights.h"
 
 // A level, and the room of the next one straight after it.
 struct Level {
@@ -36,4 +37,4 @@ void each_level(const Cage& cage, int depth, Tables& lent, Step step) {
 }
 
 // The next level by the plain engine.
-void next_plain(const Level& old, const Room& fresh);
+void next_plain(const Level& old, Weight weight, const Room& fresh);

@@ -18,9 +18,10 @@ void expect_done(const char* operation, const uint32_t* answer) {
 // A slice is a pointer and a length.
 #define CELLS(table) (table).data(), (table).size()
 
-void library_refine(const Cage& cage, int depth, Tables& lent) {
+void library_refine(const Cage& cage, int depth, Weight weight, Tables& lent) {
   uint32_t answer[RYEBADGER_COUNTS_ANSWER];
-  ryebadger_refine(CELLS(cage.twin), CELLS(cage.vert), CELLS(cage.edge), CELLS(cage.points), uint64_t(depth),
+  const uint32_t number = weight == Weight::kShort ? RYEBADGER_SHORT_WEIGHT : RYEBADGER_PAPER_WEIGHT;
+  ryebadger_refine(CELLS(cage.twin), CELLS(cage.vert), CELLS(cage.edge), CELLS(cage.points), uint64_t(depth), number,
                    CELLS(lent.twin), CELLS(lent.vert), CELLS(lent.edge), CELLS(lent.points), answer);
   expect_done("refining", answer);
 }

@@ -2,8 +2,9 @@
 #pragma once
 
 #include "soups.h"
+#include "weights.h"
 
-void library_refine(const Cage& cage, int depth, Tables& lent);
+void library_refine(const Cage& cage, int depth, Weight weight, Tables& lent);
 void library_check(const Cage& cage);
 void library_write(const Cage& cage, std::vector<uint8_t>& file);
 void library_read(const std::vector<uint8_t>& file, Tables& lent);

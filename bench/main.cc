@@ -1,8 +1,6 @@
-// The report: the proved library beside other engines, in refining, in building, in writing STL and in the count question, its
-// cost by depth, and its other operations by size.
-#include <cmath>
+// The report: the proved library beside other engines, in refining with either weight, in building, in writing STL and in the
+// count question, its cost by depth, and its other operations by size.
 #include <cstdio>
-#include <cstring>
 #include <functional>
 #include <stdexcept>
 #include <string>
@@ -14,26 +12,22 @@
 #include "library.h"
 #include "rows.h"
 #include "stl.h"
+#include "weights.h"
 
 namespace {
 
 constexpr int kSlowRounds = 3;  // of engines that take most of a second
 
-void fill(Tables& lent) {
-  for (auto* table : {&lent.twin, &lent.vert, &lent.edge}) std::memset(table->data(), 0xab, 4 * table->size());
-  std::memset(lent.points.data(), 0xab, 4 * lent.points.size());
-}
-
 // Ours, which leaves its levels in the first tables, and the others, which get the second ones.
 std::vector<Engine<Cage>> engines(Tables& levels, Tables& lent) {
   const auto ours = [&](const Cage& cage) {
     fill(levels);
-    return seconds([&] { library_refine(cage, kDepth, levels); });
+    return seconds([&] { library_refine(cage, kDepth, Weight::kShort, levels); });
   };
-  const auto exact = [&](void (*refine)(const Cage&, int, Tables&)) {
+  const auto exact = [&](void (*refine)(const Cage&, int, Weight, Tables&)) {
     return [&levels, &lent, refine](const Cage& cage) {
       fill(lent);
-      const double time = seconds([&] { refine(cage, kDepth, lent); });
+      const double time = seconds([&] { refine(cage, kDepth, Weight::kShort, lent); });
       if (!(lent == levels)) throw std::runtime_error("an engine's cells differ from the library's");
       return time;
     };
@@ -75,27 +69,14 @@ void print_cage(const char* name, const Cage& cage, const Tables& lent) {
               2 * counts.edges - counts.halfedges, 4e-6 * double(3 * lent.twin.size() + lent.points.size()));
 }
 
-#ifdef HAVE_OPENSUBDIV
-// Both rules take averages, so each level adds at most the half unit of its own rounding to a coordinate.
-void print_distance(const Cage& cage, const Tables& levels) {
-  const double most = std::sqrt(3) * kDepth / 2, distance = distance_to_opensubdiv(cage, kDepth, levels);
-  std::printf("  level %d: points at most %.2f units of 1/1024 mm from OpenSubdiv's, where rounding explains %.2f\n", kDepth,
-              distance, most);
-  if (distance > most) throw std::runtime_error("the points differ from OpenSubdiv's by more than rounding");
-}
-#endif
-
 bool print_engines() {
-  std::printf("\nRefining to depth %d, best of %d rounds in turn (of %d where one takes most of a second), process time\n",
-              kDepth, kRounds, kSlowRounds);
+  std::printf("\nRefining to depth %d with the short weight, best of %d rounds in turn, process time\n", kDepth, kRounds);
+  std::printf("best of %d where one takes most of a second\n", kSlowRounds);
   const Cage closed = torus(32), open = sheet(32), hub = wheel(1024);
   Tables levels = lent_tables(closed.counts()), lent = levels;
   const std::vector<Engine<Cage>> all = engines(levels, lent);
   print_cage("closed cage, a torus", closed, lent);
   const std::vector<double> closed_times = best_of_rounds(all, closed);
-#ifdef HAVE_OPENSUBDIV
-  print_distance(closed, levels);
-#endif
   levels = lent = lent_tables(open.counts());
   print_cage("open cage, a sheet", open, lent);
   const std::vector<double> open_times = best_of_rounds(all, open);
@@ -114,7 +95,7 @@ void print_depths() {
   double halfedges = 0, before = 0;
   for (int depth = 0; depth <= kDepth; ++depth, counts = counts.finer()) {
     halfedges += counts.halfedges;
-    const double time = best_of_calls(depth < 4 ? 100 : 1, [&] { library_refine(cage, depth, lent); });
+    const double time = best_of_calls(depth < 4 ? 100 : 1, [&] { library_refine(cage, depth, Weight::kShort, lent); });
     std::printf("depth %-32d %10.0f %10.3f %10.2f", depth, halfedges, 1e3 * time, 1e9 * time / halfedges);
     if (depth > 0) std::printf(" %7.2f", time / before);
     std::printf("\n");
@@ -155,10 +136,11 @@ int main(int count, char** words) try {
     std::fprintf(stderr, "usage: bench/run [--bars]\n");
     return 2;
   }
-  const bool refining = print_engines(), building = print_building(), stl = print_stl(), counts = print_counts();
+  const bool refining = print_engines(), weights = print_weights(), building = print_building(), stl = print_stl(),
+             counts = print_counts();
   print_depths();
   print_operations();
-  return bars && !(refining && building && stl && counts) ? 1 : 0;
+  return bars && !(refining && weights && building && stl && counts) ? 1 : 0;
 } catch (const std::exception& fault) {
   std::fprintf(stderr, "bench/run: %s\n", fault.what());
   return 3;

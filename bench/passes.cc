@@ -69,11 +69,11 @@ void write_edges(const Level& old, Fresh fresh) {
 
 }  // namespace
 
-void refine_in_passes(const Cage& cage, int depth, Tables& lent) {
+void refine_in_passes(const Cage& cage, int depth, Weight weight, Tables& lent) {
   const std::vector<uint32_t> corners = count_corners(cage);
-  refine_above(cage, depth, lent, [&](const Level& old, int32_t* vertex_points, int32_t* edge_points) {
+  refine_above(cage, depth, weight, lent, [&](const Level& old, int32_t* vertex_points, int32_t* edge_points) {
     add_spokes(old, vertex_points);
-    settle(corners, old.points, vertex_points, 3 * size_t(old.counts.vertices));
+    settle(weight, corners, old.points, vertex_points, 3 * size_t(old.counts.vertices));
     write_edges(old, {vertex_points, edge_points});
   });
 }

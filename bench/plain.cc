@@ -48,8 +48,15 @@ void edge_points(const Level& old, int32_t* fresh) {
   }
 }
 
+// V.3 of one coordinate of a vertex of n corners, s the sum over its spokes' far ends.
+int32_t inner_place(Weight weight, int64_t n, int64_t v, int64_t s) {
+  if (weight == Weight::kShort) return rounded(5 * n * v + 3 * s, 8 * n);
+  const int64_t w = kPaperTable[n];
+  return rounded((kParts - n * w) * v + w * s, kParts);
+}
+
 // V.2 or V.3 of the vertex that a halfedge leaves.
-void vertex_point(const Level& old, uint32_t start, int32_t* fresh) {
+void vertex_point(const Level& old, Weight weight, uint32_t start, int32_t* fresh) {
   const uint32_t v = old.vert[start];
   int64_t sum[3] = {0, 0, 0}, corners = 0;
   const auto add = [&](uint32_t w) {
@@ -63,7 +70,7 @@ void vertex_point(const Level& old, uint32_t start, int32_t* fresh) {
     h = old.twin[prev(h)];
   } while (h != start && h != kNoTwin);
   if (h == start) {
-    for (int k = 0; k < 3; ++k) fresh[3 * v + k] = rounded(5 * corners * old.points[3 * v + k] + 3 * sum[k], 8 * corners);
+    for (int k = 0; k < 3; ++k) fresh[3 * v + k] = inner_place(weight, corners, old.points[3 * v + k], sum[k]);
     return;
   }
   uint32_t first = start;
@@ -74,18 +81,20 @@ void vertex_point(const Level& old, uint32_t start, int32_t* fresh) {
   for (int k = 0; k < 3; ++k) fresh[3 * v + k] = rounded(6 * int64_t(old.points[3 * v + k]) + sum[k], 8);
 }
 
-void vertex_points(const Level& old, int32_t* fresh) {
+void vertex_points(const Level& old, Weight weight, int32_t* fresh) {
   std::vector<uint32_t> leaving(old.counts.vertices);
   for (uint32_t h = 0; h < old.counts.halfedges; ++h) leaving[old.vert[h]] = h;
-  for (uint32_t start : leaving) vertex_point(old, start, fresh);
+  for (uint32_t start : leaving) vertex_point(old, weight, start, fresh);
 }
 
 }  // namespace
 
-void next_plain(const Level& old, const Room& fresh) {
+void next_plain(const Level& old, Weight weight, const Room& fresh) {
   next_tables(old, fresh);
   edge_points(old, fresh.points);
-  vertex_points(old, fresh.points);
+  vertex_points(old, weight, fresh.points);
 }
 
-void refine_plain(const Cage& cage, int depth, Tables& lent) { each_level(cage, depth, lent, next_plain); }
+void refine_plain(const Cage& cage, int depth, Weight weight, Tables& lent) {
+  each_level(cage, depth, lent, [=](const Level& old, const Room& fresh) { next_plain(old, weight, fresh); });
+}

@@ -15,7 +15,7 @@ namespace {
 Soup last_level(const std::string& name, const Cage& cage) {
   Counts counts = cage.counts();
   Tables levels = lent_tables(counts);
-  library_refine(cage, kDepth, levels);
+  library_refine(cage, kDepth, Weight::kShort, levels);
   auto vert = levels.vert.begin();
   auto points = levels.points.begin();
   for (int level = 0; level < kDepth; ++level, counts = counts.finer())

@@ -72,18 +72,20 @@ struct Known {
 };
 
 template <class Scatter>
-void refine(const Cage& cage, int depth, Tables& lent, Scatter scatter_all) {
+void refine(const Cage& cage, int depth, Weight weight, Tables& lent, Scatter scatter_all) {
   Known known(cage);
-  refine_above(cage, depth, lent, [&](const Level& old, int32_t* vertex_points, int32_t* edge_points) {
+  refine_above(cage, depth, weight, lent, [&](const Level& old, int32_t* vertex_points, int32_t* edge_points) {
     known.refine_border();
     scatter_all(old, vertex_points, edge_points);
-    settle(known.corners, old.points, vertex_points, 3 * size_t(old.counts.vertices));
+    settle(weight, known.corners, old.points, vertex_points, 3 * size_t(old.counts.vertices));
     known.put_border(old, vertex_points, edge_points);
   });
 }
 
 }  // namespace
 
-void refine_tuned(const Cage& cage, int depth, Tables& lent) { refine(cage, depth, lent, scatter); }
+void refine_tuned(const Cage& cage, int depth, Weight weight, Tables& lent) { refine(cage, depth, weight, lent, scatter); }
 
-void refine_by_fours(const Cage& cage, int depth, Tables& lent) { refine(cage, depth, lent, scatter_fours); }
+void refine_by_fours(const Cage& cage, int depth, Weight weight, Tables& lent) {
+  refine(cage, depth, weight, lent, scatter_fours);
+}
