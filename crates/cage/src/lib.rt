@@ -26,7 +26,9 @@ pub fn check_cage(twin: &[u32], vert: &[u32], edge: &[u32], points: &[i32]) -> C
 
 // Checks 1 to 8 of any tables. No weight is chosen here, so none for which 14 would be given.
 pub fn verdict(twin: &[u32], vert: &[u32], edge: &[u32], points: &[i32]) -> Answer
-    ensures { λ r. ⌜ told r ≡ first (cageChecks (tables (now (twin .entry)) (now (vert .entry)) (now (edge .entry))) (now (points .entry)) 0) ⌝ }
+    ensures { λ r.
+        ⌜ told r ≡ first (cageChecks (tables (now (twin .entry)) (now (vert .entry)) (now (edge .entry)))
+        (now (points .entry)) 0) ⌝ }
 {
     check_for_refining(twin, vert, edge, points, 0, Weight::Short)
 }

@@ -1,5 +1,5 @@
--- Document 01, "Cages to try": P1 to P10, one table and one statement (`as-document-01-says`), computed from the definitions;
--- P6 with the paper's weight, `by-the-paper`.
+-- Document 01, "Cages to try": P1 to P10, one table and one statement (`as-document-01-says`), computed from the definitions.
+-- P6 has document 02's figures for the paper's weight too.
 use Prim.Native.Nat.{ℕ}
 use mathlib.Core.Path.{_≡_, refl}
 use mathlib.Core.List.{List, [], _∷_, _++_, map}
@@ -57,9 +57,6 @@ triangleRefined = refined Short triangle (corner 800) 15 27
 abbrev pillowBy : Weight → Refined
 pillowBy w = refined w pillow (corner 16) 30 27
 
-abbrev pillowRefined : Refined
-pillowRefined = pillowBy Short
-
 -- vertex 0 and edge 0's point of the pillow's level 1
 abbrev vertexAndEdge : Refined → List ℤ
 vertexAndEdge r = take 3 (drop 9 (r .points)) ++ take 3 (drop 18 (r .points))
@@ -92,10 +89,11 @@ cases =
     -- P5: the pillow is accepted; TWIN(0), EDGE(0), EDGE(11) and EDGE(15) of its level 1
     ∷ P
     (numbersOf (checkCage pillow (corner 16))
-    ++ map pos (cell (drop 6 (pillowRefined .lent .twin)) 0 ∷ map (cell (drop 6 (pillowRefined .lent .edge))) (0 ∷ 11 ∷ 15 ∷ [])))
+    ++ map pos (cell (drop 6 (pillowBy Short .lent .twin)) 0 ∷ map (cell (drop 6 (pillowBy Short .lent .edge))) (0 ∷ 11 ∷ 15 ∷ [])))
     (map pos (0 ∷ 0 ∷ 11 ∷ 1 ∷ 1 ∷ 0 ∷ []))
-    -- P6: vertex 0 and edge 0's point
-    ∷ P (vertexAndEdge pillowRefined) (map pos (3 ∷ 3 ∷ 0 ∷ 6 ∷ 4 ∷ 0 ∷ []))
+    -- P6: vertex 0 and edge 0's point, by either weight
+    ∷ P (vertexAndEdge (pillowBy Short) ++ vertexAndEdge (pillowBy Paper))
+    (map pos (3 ∷ 3 ∷ 0 ∷ 6 ∷ 4 ∷ 0 ∷ 5 ∷ 5 ∷ 0 ∷ 6 ∷ 4 ∷ 0 ∷ []))
     -- P7: refusal 7 at 0
     ∷ P (numbersOf (checkCage twoTriangles (replicate 15 (pos 0)))) (map pos (7 ∷ 0 ∷ []))
     -- P8: the room for H 12, E 6, V 4, depth 2
@@ -112,13 +110,6 @@ pub as-document-01-says : map (λ c. c .gives) cases ≡ map (λ c. c .says) cas
 unfolding NEXT PREV above E B given givenAt short first said filled countsAt seven levels countShape aboveLimit countQuestion
     misshapen badTwin badVertex unused stranger badEdge met joined notOneFan rows newTwin newEdge newVert nextTwins nextEdges
     nextVerts level rules returned shortTables filledTables levelsEndToEnd round E1 E2 V2 V3 corners spokeEnds creaseEnds
-    vertexPoint edgePoint newPoint nextPoints levelPoints outOfRange cageChecks refineChecks checkCage refineVerdict refineCage
+    vertexPoint edgePoint newPoint nextPoints levelPoints outOfRange onBorder manyCorners cageChecks refineChecks checkCage
+    refineVerdict refineCage
 as-document-01-says = refl
-
--- P6 with the paper's weight, as document 02 has it: vertex 0 goes to (5,5,0) and the edge's point stays
-pub by-the-paper : vertexAndEdge (pillowBy Paper) ≡ map pos (5 ∷ 5 ∷ 0 ∷ 6 ∷ 4 ∷ 0 ∷ [])
-unfolding NEXT PREV above E B given givenAt short first said filled countsAt seven levels countShape aboveLimit countQuestion
-    misshapen badTwin badVertex unused stranger badEdge met joined notOneFan rows newTwin newEdge newVert nextTwins nextEdges
-    nextVerts level rules returned shortTables filledTables levelsEndToEnd round E1 E2 V2 V3 corners spokeEnds creaseEnds
-    vertexPoint edgePoint newPoint nextPoints levelPoints outOfRange onBorder manyCorners cageChecks refineChecks checkCage refineVerdict refineCage
-by-the-paper = refl

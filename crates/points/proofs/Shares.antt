@@ -4,7 +4,7 @@
 --     whole-some, whole-small        which is some, and no large number
 --     paper-else                     every number but 0 is the paper's weight
 --     below, past, listed            the entry of a valence, by where it lies
-use Prim.Native.Nat.{ℕ, zero, suc, _-_, _*_, _≤_, _<_}
+use Prim.Native.Nat.{ℕ, zero, suc, _-_, _*_, _^_, _≤_, _<_}
 use mathlib.Core.Path.{_≡_, refl}
 use mathlib.Core.Logic.{_≢_}
 use mathlib.Core.Bool.{false}
@@ -22,7 +22,7 @@ use Rattle.points.specs.Weights.{weightOf, entries, entry, most-valence,
 use Rattle.points.specs.Internal.Relied.{most-corners}
 
 -- the test over the table
-tested : any 33 (λ n. leb 16777216 (n * entry n)) ≡ false
+tested : any 33 (λ n. leb (2 ^ 24) (n * entry n)) ≡ false
 tested = refl
 
 -- no entry below 2 and above 32, and else that of the table
@@ -41,11 +41,11 @@ listed zero l = absurd (omega arith)
 listed (suc zero) l = absurd (omega arith)
 listed (suc (suc n)) l = let e : suc (suc n) - 2 ≡ n = omega arith in rw e
 
-pub entries-below : (n : ℕ) → n * entry n < 16777216
+pub entries-below : (n : ℕ) → n * entry n < 2 ^ 24
 entries-below n = by (decLe n most-valence)
   where
-    by : Dec (n ≤ most-valence) → n * entry n < 16777216
-    by (yes l) = leb-false 16777216 (n * entry n) (any-false (λ k. leb 16777216 (k * entry k)) 33 tested n (omega arith))
+    by : Dec (n ≤ most-valence) → n * entry n < 2 ^ 24
+    by (yes l) = leb-false (2 ^ 24) (n * entry n) (any-false (λ k. leb (2 ^ 24) (k * entry k)) 33 tested n (omega arith))
     by (no l) = rw (past n (omega (arith, l)), mul-zero n) (omega arith)
 
 pub shares-within : (w : Weight) (n : ℕ) → n * share w n .part ≤ share w n .whole
@@ -56,7 +56,7 @@ pub whole-some : (w : Weight) (n : ℕ) → 0 < n → 0 < share w n .whole
 whole-some Short n some = omega arith
 whole-some Paper n some = omega arith
 
-pub whole-small : (w : Weight) (n : ℕ) → n ≤ most-corners → share w n .whole ≤ 16777216
+pub whole-small : (w : Weight) (n : ℕ) → n ≤ most-corners → share w n .whole ≤ 2 ^ 24
 whole-small Short n few = omega arith
 whole-small Paper n few = omega arith
 

@@ -1,5 +1,5 @@
 -- Document 01, "Points", and document 02, §4 "The weight from the paper": the weight of one spoke of an inner vertex.
-use Prim.Native.Nat.{ℕ, zero, suc, _*_}
+use Prim.Native.Nat.{ℕ, zero, suc, _*_, _^_}
 use mathlib.Core.List.{List, [], _∷_}
 use lib.ListN.{getD}
 use Rattle.points.specs.declared.weights.Weight.{Weight}
@@ -31,4 +31,4 @@ most-valence = 32
 -- "the short weight 3/(8n) for every valence n"; "Beside document 01's short weight, .. that of source document 002's rule V.3"
 abbrev pub share : Weight → ℕ → Share
 share Short n = record { part = 3; whole = 8 * n }
-share Paper n = record { part = entry n; whole = 16777216 }
+share Paper n = record { part = entry n; whole = 2 ^ 24 }

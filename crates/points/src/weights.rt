@@ -19,7 +19,10 @@ pub struct Share {
 // The most corners that an inner vertex has where the paper's weight is chosen.
 pub const MOST_VALENCE: u32 = 32;
 
-// The paper's weight at valences 2 to 32, in parts of 2^24.
+// The paper's weight is a part of 2^24.
+const WHOLE: u32 = 16777216;
+
+// Its parts at valences 2 to 32.
 const ENTRIES: [u32; 31] = [
     5111808,
     3145728,
@@ -77,7 +80,7 @@ impl Weight {
             },
             Weight::Paper => Share {
                 part: entry(corners),
-                whole: 16777216,
+                whole: WHOLE,
             },
         }
     }

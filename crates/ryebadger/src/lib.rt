@@ -92,8 +92,8 @@ pub extern "C" fn ryebadger_refine(
     answer: &mut [u32; 25],
 )
     ensures { λ _.
-        let after = refineCage (weightOf weight) (tables (now (twin .entry)) (now (vert .entry)) (now (edge .entry))) (now (points .entry)) depth
-        (tables (now (twins .entry)) (now (verts .entry)) (now (edges .entry))) (now (places .entry)) in
+        let after = refineCage (weightOf weight) (tables (now (twin .entry)) (now (vert .entry)) (now (edge .entry)))
+        (now (points .entry)) depth (tables (now (twins .entry)) (now (verts .entry)) (now (edges .entry))) (now (places .entry)) in
         ⌜ (now (answer .exit) ≡ levelCells (after .answer))
         × (tables (now (twins .exit)) (now (verts .exit)) (now (edges .exit)) ≡ after .lent)
         × (now (places .exit) ≡ after .points) ⌝ }

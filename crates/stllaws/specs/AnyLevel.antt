@@ -34,7 +34,9 @@ pub record Writable (w : Weight) (c : Tables) (points : List ℤ) (depth : ℕ) 
       ownPlaces (countsOf c (vertices points)) d (refineCage w c points depth lent lentPoints .points)
       ≡ levelPoints w (countsOf c (vertices points)) c points d
   -- none of 1, 2, 4 and 8 is given on them
-  pub passes : first (stlChecks (level (countsOf c (vertices points)) c d .vert) (levelPoints w (countsOf c (vertices points)) c points d)) ≡ DONE
+  pub passes :
+      first (stlChecks (level (countsOf c (vertices points)) c d .vert) (levelPoints w (countsOf c (vertices points)) c points d))
+      ≡ DONE
   -- the room that they need
   pub room :
       length (stlFile (level (countsOf c (vertices points)) c d .vert) (levelPoints w (countsOf c (vertices points)) c points d))

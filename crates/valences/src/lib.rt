@@ -37,7 +37,9 @@ fn check_inside(twin: &[u32], vert: &[u32], vertices: usize) -> Answer
 // Vertices on a border no longer count as having corners.
 fn clear_borders(twin: &[u32], vert: &[u32], corners: &mut [u32])
     requires { ⌜ ForValences (now twin) (now vert) (length (now corners)) ⌝ }
-    ensures { λ _. ⌜ Cleared (now (twin .entry)) (now (vert .entry)) (length (now (vert .entry))) (now (corners .entry)) (now (corners .exit)) ⌝ }
+    ensures { λ _.
+        ⌜ Cleared (now (twin .entry)) (now (vert .entry)) (length (now (vert .entry))) (now (corners .entry))
+        (now (corners .exit)) ⌝ }
 {
     let mut halfedge = 0;
     while halfedge < vert.len() {

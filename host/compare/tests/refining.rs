@@ -11,20 +11,20 @@ use second::cage::Cage;
 use second::suite::SuiteCage;
 use second::weight::Weight;
 
-const EVERY_DEPTH: [u64; 7] = [0, 1, 2, 3, 4, 5, 6];
-
-/// An accepted cage at these depths, into tables of which one is as long as
-/// needed and the others are longer.
-fn at_depths(entry: &SuiteCage, weight: Weight, depths: &[u64]) {
-    let expected = verdict_with(weight, &entry.cage);
-    for &depth in depths {
-        let mut longer = [0, 1, 2, 7];
-        longer.rotate_left(depth as usize % 4);
-        let room = room_at(&entry.cage, depth);
-        let lengths = std::array::from_fn(|table| room[table] + longer[table]);
-        let question = Question::Refine(&entry.cage, depth, weight, lengths);
-        let outcome = assert_alike(&entry.name, &question);
-        assert_eq!(outcome.verdict(), expected, "{}", entry.name);
+/// An accepted cage with either weight at every depth, into tables of which one
+/// is as long as needed and the others are longer.
+fn at_every_depth(entry: &SuiteCage) {
+    for weight in WEIGHTS {
+        let expected = verdict_with(weight, &entry.cage);
+        for depth in 0..=6 {
+            let mut longer = [0, 1, 2, 7];
+            longer.rotate_left(depth as usize % 4);
+            let room = room_at(&entry.cage, depth);
+            let lengths = std::array::from_fn(|table| room[table] + longer[table]);
+            let question = Question::Refine(&entry.cage, depth, weight, lengths);
+            let outcome = assert_alike(&entry.name, &question);
+            assert_eq!(outcome.verdict(), expected, "{}", entry.name);
+        }
     }
 }
 
@@ -33,23 +33,7 @@ fn every_small_accepted_cage_at_every_depth() {
     let mut entries = accepted();
     entries.retain(|entry| !entry.is_large());
     assert!(entries.len() > 150);
-    for entry in &entries {
-        for weight in WEIGHTS {
-            at_depths(entry, weight, &EVERY_DEPTH);
-        }
-    }
-}
-
-/// Large levels take long. With the paper's weight, which has a part in the
-/// points alone, cages under other numbers do not go as deep.
-fn large_at_depths(entry: &SuiteCage) {
-    at_depths(entry, Weight::Short, &EVERY_DEPTH);
-    let deepest = if entry.name.ends_with("-disguised") {
-        4
-    } else {
-        6
-    };
-    at_depths(entry, Weight::Paper, &[0, 3, deepest]);
+    entries.iter().for_each(at_every_depth);
 }
 
 #[test]
@@ -61,7 +45,7 @@ fn every_large_accepted_cage_at_every_depth() {
     std::thread::scope(|scope| {
         for first in [0, 1] {
             let every_other = entries.iter().skip(first).step_by(2);
-            scope.spawn(|| every_other.for_each(large_at_depths));
+            scope.spawn(|| every_other.for_each(at_every_depth));
         }
     });
 }
@@ -120,18 +104,21 @@ fn each_room(depths: &[u64], tried: impl Fn(&str, &Cage, u64, Weight, [usize; 4]
 
 #[test]
 fn room_exact_and_one_short_table_by_table() {
-    each_room(&EVERY_DEPTH, |name, cage, depth, weight, exact| {
-        let refined = |lengths| {
-            let question = Question::Refine(cage, depth, weight, lengths);
-            assert_alike(name, &question).verdict()
-        };
-        assert_eq!(refined(exact), (0, 0), "{name}");
-        for table in 0..4 {
-            let mut short = exact;
-            short[table] -= 1;
-            assert_eq!(refined(short), (9, table as u64 + 1), "{name}");
-        }
-    });
+    each_room(
+        &[0, 1, 2, 3, 4, 5, 6],
+        |name, cage, depth, weight, exact| {
+            let refined = |lengths| {
+                let question = Question::Refine(cage, depth, weight, lengths);
+                assert_alike(name, &question).verdict()
+            };
+            assert_eq!(refined(exact), (0, 0), "{name}");
+            for table in 0..4 {
+                let mut short = exact;
+                short[table] -= 1;
+                assert_eq!(refined(short), (9, table as u64 + 1), "{name}");
+            }
+        },
+    );
 }
 
 #[test]

@@ -1,5 +1,6 @@
 -- `share` makes the share that its definition names, by which weight it is.
 use borrow.Author.Needs.{needs}
+use Prim.Native.Nat.{_^_}
 use mathlib.Core.Path.{sym, ap, _∙_}
 use Rattle.points.specs.Weights.{share}
 use Rattle.points.proofs.weights.Weight.share.Statement.{statement}
@@ -23,7 +24,7 @@ returns c = ap (λ w. share w (c .before .before .args .corners)) (sym (c .enum-
 returns-2 : tie.Need-returns-2
 returns-2 c =
     let n = c .before .before .before .args .corners in
-    ap (λ k. record { part = k; whole = 16777216 }) (c .entry .ensures) ∙ ap (λ w. share w n) (sym (c .before .enum-told2 .given .1))
+    ap (λ k. record { part = k; whole = 2 ^ 24 }) (c .entry .ensures) ∙ ap (λ w. share w n) (sym (c .before .enum-told2 .given .1))
 
 pub share-spec : {M : Type 1} → statement M
 share-spec = tie.close (tie.spec enum-told mul-t4 enum-told-2 entry-requires returns returns-2)
