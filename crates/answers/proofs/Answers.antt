@@ -1,11 +1,11 @@
 -- Every answer fits its cells: of the cage check (`check-fits`), building (`build-fits`), the count question (`counts-fit`), refining
 -- (`refine-fits`), the corner question (`corners-fit`), reading (`read-fits`), writing (`write-fits`) and writing STL (`stl-fits`). Assumes nothing.
-use Prim.Native.Nat.{ℕ, suc, _+_, _≤_, _<_}
+use Prim.Native.Nat.{ℕ, suc, _≤_, _<_}
 use mathlib.Core.Path.{_≡_, refl}
 use mathlib.Core.Bool.{Bool, true, false, cond}
-use mathlib.Core.List.{List, [], _∷_, _++_}
+use mathlib.Core.List.{List, [], _∷_}
 use native.Mathlib.Omega.{arith}
-use lib.Dec.{eqb, leb, ltb}
+use lib.Dec.{eqb, leb}
 use borrow.Author.Tests.{eqb-true}
 use lib.IntN.{ℤ}
 use lib.ListN.{length, replicate}
@@ -19,7 +19,7 @@ use Rattle.halfedges.specs.declared.table.Levels.{Levels}
 use Rattle.halfedges.specs.declared.table.Counted.{Counted}
 use Rattle.halfedges.specs.declared.corners.Corners.{Corners}
 use Rattle.halfedges.specs.Cage.{most-halfedges, most-vertices, most-depth, border, above, E, B}
-use Rattle.halfedges.specs.Refusals.{Verdict, DONE, SHAPE, LIMIT, TWIN, VERTEX, UNUSED, EDGE, FAN, POINT, VALENCE, ROOM, SHORT, FIELD, EXTRA, DOUBLED, told, givenAt, short, whenDone, first, Said, said}
+use Rattle.halfedges.specs.Refusals.{Verdict, DONE, SHAPE, LIMIT, VERTEX, UNUSED, FAN, POINT, SHORT, FIELD, EXTRA, DOUBLED, told, whenDone, first, Said, said}
 use Rattle.halfedges.specs.Internal.Counts.{AtMost}
 use Rattle.halfedges.specs.Counts.{countsAt, Hs, Es, Vs, seven, levels, noLevels, countShape, aboveLimit, countQuestion, counted}
 use Rattle.halfedges.specs.Corners.{cornerShape, cornerQuestion, cornered}
@@ -27,12 +27,9 @@ use Rattle.halfedges.proofs.Checks.{first-zero, done-passes}
 use Rattle.halfedges.proofs.Growth.{levels-at-most}
 use Rattle.halfedges.proofs.Questions.{limits-kept, count-shape, count-limit, count-done, within, corner-shape, corner-done}
 use Rattle.tables.specs.Tables.{Tables, countsOf}
-use Rattle.tables.specs.Check.{rules, returned}
-use Rattle.levels.specs.Refining.{shortTables}
+use Rattle.tables.specs.Check.{returned}
 use Rattle.points.specs.declared.weights.Weight.{Weight}
-use Rattle.points.specs.declared.weights.Weight.the-variants.{Short, Paper}
-use Rattle.points.specs.Operations.{vertices, manyCorners, valenceChecks, cageChecks, refineChecks, checkCage, refineVerdict, refineCage}
-use Rattle.cage.proofs.CageChecks.{short-checks}
+use Rattle.points.specs.Operations.{vertices, cageChecks, refineChecks, checkCage, refineVerdict, refineCage}
 use Rattle.triangles.specs.Plain.{twinTable}
 use Rattle.triangles.proofs.Opposite.{twins-long}
 use Rattle.building.specs.Building.{buildChecks, buildVerdict, buildCage}
@@ -49,44 +46,8 @@ use Rattle.stl.proofs.FacetLaws.{file-length as stl-length}
 use Rattle.stl.proofs.Verdict.{stl-ready}
 use Rattle.answers.specs.Cells.{cells, lengthCells, levelNumbers, levelCells}
 use Rattle.answers.specs.Internal.Fitting.{Fitting, Sevens}
+use Rattle.answers.proofs.Verdicts.{short-small, checks-small, cage-small, rooms-small}
 use Rattle.answers.proofs.Small.{Small, fitting-both, fitting-tabulate, fitting-when, given-small, givenAt-small, first-small, guarded-small, joined-small}
-
--- a lent table that is short
-short-small : (table needed lent : ℕ) → table < 6 → Small (short table needed lent)
-unfolding short
-short-small table needed lent l = given-small (ltb lent needed) (ROOM table) (omega arith, omega arith)
-
--- 14, where there are no more vertices than a cage has
-valence-small : (w : Weight) (twin vert : List ℕ) (v : ℕ) → v ≤ most-vertices → Small (first (valenceChecks w twin vert v))
-unfolding first
-valence-small Short twin vert v l = (omega arith, omega arith)
-valence-small Paper twin vert v l =
-    first-small (givenAt v (manyCorners twin vert) VALENCE ∷ []) (givenAt-small v (manyCorners twin vert) VALENCE (λ u m. (omega arith, omega arith)), tt)
-
--- the first of 1 to 8, and 14 by the weight
-checks-small : (w : Weight) (c : Tables) (points : List ℤ) (depth : ℕ) → Small (first (refineChecks w c points depth))
-unfolding refineChecks rules
-checks-small w c points depth =
-    guarded-small _ SHAPE _ refl (omega arith, omega arith)
-    (λ _. guarded-small _ LIMIT _ refl (omega arith, omega arith)
-    (λ l.
-    let k = limits-kept (length (c .twin)) (vertices points) depth l in
-    joined-small (rules c (vertices points)) _
-    (first-small _ (
-      givenAt-small _ _ TWIN (λ h m. (omega arith, omega arith)),
-      (
-        givenAt-small _ _ VERTEX (λ h m. (omega arith, omega arith)),
-        (
-          givenAt-small _ _ UNUSED (λ v m. (omega arith, omega arith)),
-          (givenAt-small _ _ EDGE (λ h m. (omega arith, omega arith)), (givenAt-small _ _ FAN (λ v m. (omega arith, omega arith)), tt)),
-        ),
-      ),
-    ))
-    (λ _. joined-small (valenceChecks w (c .twin) (c .vert) (vertices points)) _ (valence-small w (c .twin) (c .vert) (vertices points) (k .1))
-    (λ _. first-small _ (givenAt-small _ _ POINT (λ i m. (omega arith, omega arith)), tt)))))
-
-cage-small : (c : Tables) (points : List ℤ) (depth : ℕ) → Small (first (cageChecks c points depth))
-cage-small c points depth = rw (short-checks c points depth) at (checks-small Short c points depth)
 
 -- H, E, F, V and B within the limits, and zeros
 returned-fit : (twin : List ℕ) (v : ℕ) → length twin ≤ most-halfedges → v ≤ most-vertices → Fitting (returned twin v)
@@ -225,11 +186,6 @@ counts-fit t depth =
     levels-fit (countQuestion t depth)
     (first-small _ (given-small (countShape t) SHAPE (omega arith, omega arith), (given-small (aboveLimit (t .halfedges) (t .vertices) depth) LIMIT (omega arith, omega arith), tt)))
     (laid-count t depth)
-
--- the four tables' room
-rooms-small : (needed coordinates : ℕ) (x : Tables) (xp : List ℤ) → Small (first (shortTables needed x ++ (short 4 coordinates (length xp) ∷ [])))
-unfolding shortTables
-rooms-small needed coordinates x xp = first-small _ (short-small 1 _ _ (omega arith), (short-small 2 _ _ (omega arith), (short-small 3 _ _ (omega arith), (short-small 4 _ _ (omega arith), tt))))
 
 module _ (w : Weight) (c : Tables) (points : List ℤ) (depth : ℕ) (x : Tables) (xp : List ℤ) where
   refine-small : Small (refineVerdict w c points depth x xp)

@@ -1,14 +1,14 @@
 -- How large the point rules' numerators are, of coordinates of at most m (`E1-numerator` and so on), and so that a rule's
 -- result is at most m too (`E1-at-most` and so on); V.3 with six corners is (10v+s)/16 by either weight (`V3-six`). Assumes
 -- nothing.
-use Prim.Native.Nat.{ℕ, suc, _+_, _-_, _*_, _^_, _≤_, _<_}
+use Prim.Native.Nat.{ℕ, _+_, _-_, _*_, _^_, _≤_, _<_}
 use mathlib.Core.Path.{_≡_, sym, ap, _∙_, subst}
 use mathlib.Core.Bool.{false}
 use native.Mathlib.Decide.{decLe}
 use native.Mathlib.Nat.{mul-comm, mul-assoc, add-mul, mul-le-mul-left}
 use native.Mathlib.Omega.{arith}
 use lib.Dec.{T}
-use lib.IntN.{ℤ, pos, negsuc, negℤ, natAbs, _+ℤ_, _-ℤ_, _*ℤ_}
+use lib.IntN.{ℤ, pos, negsuc, natAbs, _+ℤ_, _-ℤ_, _*ℤ_}
 use lib.Signed.{mag, leZ}
 use Rattle.laws.proofs.Integers.{natAbs-add, natAbs-mul, subℕ-pos, subℕ-neg}
 use Rattle.rounding.specs.Rounding.{round}

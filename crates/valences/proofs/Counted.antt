@@ -2,7 +2,7 @@
 --     twin-kept, ends-cleared        what one halfedge clears, by whether it has a twin
 --     cleared-none, cleared-on       and what the first ones do, one more at a time
 --     counted-inside, many-is        what is left is each inner vertex's corners, by which rule 14 goes
-use Prim.Native.Nat.{ℕ, suc, _+_, _≤_, _<_}
+use Prim.Native.Nat.{ℕ, _+_, _≤_, _<_}
 use mathlib.Core.Path.{_≡_, refl, sym, ap, _∙_}
 use mathlib.Core.Bool.{Bool, true, false, cond, _||_}
 use mathlib.Core.List.{List}

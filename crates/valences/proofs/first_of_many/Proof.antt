@@ -1,7 +1,6 @@
 -- `first_of_many` goes up to the first vertex inside with more than 32 corners.
 use borrow.Author.Needs.{needs}
 use Prim.Native.Nat.{_-_}
-use native.Mathlib.Omega.{arith}
 use borrow.Author.Tests.{lt-ltb, le-ltb}
 use Rattle.halfedges.specs.Refusals.{VALENCE}
 use Rattle.tables.proofs.Upto.{Upto, upto-none, upto-more, upto-found, upto-all}

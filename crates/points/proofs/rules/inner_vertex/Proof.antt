@@ -1,19 +1,17 @@
 -- `inner_vertex` rounds V.3's numerator, which a share within its whole and the coordinates keep small.
 use borrow.Author.Needs.{needs}
 use Prim.Native.Nat.{ℕ, _+_, _-_, _*_, _≤_, _<_}
-use mathlib.Core.Path.{_≡_, sym, ap, _∙_}
+use mathlib.Core.Path.{_≡_}
 use native.Mathlib.Nat.{one-mul, mul-le-mul-right}
 use native.Mathlib.Omega.{arith}
 use lib.Dec.{lt→ltb}
 use lib.IntN.{ℤ, pos, natAbs, _+ℤ_, _*ℤ_}
-use lib.Signed.{_<ℤ_}
 use mir.Syntax.{w32, w64}
 use mir.Val.{SFits, toZ}
 use mir.Facts.{toZ-ofZ, toZ-pos, sfits-widen}
 use Rattle.laws.proofs.Integers.{natAbs-mul, small-fits, back-of, widened}
-use Rattle.points.specs.declared.weights.Weight.{Weight}
 use Rattle.points.specs.Weights.{share}
-use Rattle.points.specs.PointRules.{rest, V3}
+use Rattle.points.specs.PointRules.{V3}
 use Rattle.points.specs.Operations.{most-coordinate}
 use Rattle.points.proofs.Shares.{shares-within, whole-some, whole-small}
 use Rattle.points.proofs.Numerators.{V3-parts, V3-numerator}
