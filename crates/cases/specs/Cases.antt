@@ -100,8 +100,8 @@ cases =
     ∷ P (roomOf (countQuestion (record { halfedges = 12; edges = 6; vertices = 4 }) 2 .values)) (map pos (252 ∷ 48 ∷ []))
     -- P9: refusal 3 at 0
     ∷ P (numbersOf (checkCage ownTwin (corner 16))) (map pos (3 ∷ 0 ∷ []))
-    -- P10: 12/8, −12/8 and −13/8
-    ∷ P (round (pos 12) 8 ∷ round (negℤ (pos 12)) 8 ∷ round (negℤ (pos 13)) 8 ∷ []) (pos 2 ∷ negℤ (pos 1) ∷ negℤ (pos 2) ∷ [])
+    -- P10: 12/8, −12/8 and −13/8, halves away from zero
+    ∷ P (round (pos 12) 8 ∷ round (negℤ (pos 12)) 8 ∷ round (negℤ (pos 13)) 8 ∷ []) (pos 2 ∷ negℤ (pos 2) ∷ negℤ (pos 2) ∷ [])
     ∷ []
 
 -- ---- the statement

@@ -8,7 +8,7 @@ use lib.IntN.{ℤ, pos, negsuc, negℤ, natAbs, subℕ, _+ℤ_, _-ℤ_, +ℤ-com
 use mir.Syntax.{Width}
 use mir.Val.{SFits}
 use Rattle.laws.proofs.Integers.{subℕ-pos, subℕ-neg, neg-add}
-use Rattle.rounding.specs.Rounding.{floor}
+use Rattle.rounding.specs.Internal.Floor.{floor}
 
 -- a number of at most m, raised by m
 abbrev pub raised : ℤ → ℕ → ℕ

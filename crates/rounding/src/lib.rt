@@ -3,7 +3,8 @@ ghost use mathlib.Core.Path.{_≡_};
 ghost use Prim.Native.Nat.{_-_, _*_, _^_, _≤_, _<_};
 ghost use lib.IntN.{pos, natAbs};
 ghost use lib.Signed.{_<ℤ_};
-ghost use Rattle.rounding.specs.Rounding.{floor, round};
+ghost use Rattle.rounding.specs.Rounding.{round};
+ghost use Rattle.rounding.specs.Internal.Floor.{floor};
 
 // Wholes added before a division and taken away after it, so that no negative number is divided.
 const WHOLES: i64 = 2147483648;
@@ -18,12 +19,14 @@ pub fn floor_division(numerator: i64, denominator: i64) -> i64
     quotient as i64 - WHOLES
 }
 
-// Rounded to the nearest whole number, halves going up, and narrowed: the numerator is at most as many denominators as an i32 can say.
+// Rounded to the nearest whole number, halves going away from zero, and narrowed: the numerator is at most as many denominators as an
+// i32 can say. Below zero a half goes down, since its numerator is one less.
 pub fn rounded(numerator: i64, denominator: i64) -> i32
     requires { ⌜ (pos 0 <ℤ denominator) × (natAbs denominator ≤ 2 ^ 30) × (natAbs numerator ≤ (2 ^ 31 - 1) * natAbs denominator) ⌝ }
     ensures { λ r. ⌜ r ≡ round numerator (natAbs denominator) ⌝ }
 {
-    let top = 2 * numerator + denominator;
+    let sign = numerator >> 63;
+    let top = 2 * numerator + sign + denominator;
     let bottom = 2 * denominator;
     let whole = floor_division(top, bottom);
     whole as i32

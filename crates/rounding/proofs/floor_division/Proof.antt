@@ -8,7 +8,7 @@ use mir.Syntax.{w64}
 use mir.Val.{SFits}
 use mir.Facts.{toZ-ofZ}
 use Rattle.laws.proofs.Integers.{pos-of, small-fits}
-use Rattle.rounding.specs.Rounding.{floor}
+use Rattle.rounding.specs.Internal.Floor.{floor}
 use Rattle.rounding.proofs.Floor.{raised, raised-is, raised-small, raised-floor, floor-fits}
 use Rattle.rounding.proofs.floor_division.Statement.{statement}
 use Rattle.rounding.proofs.floor_division.Tie as tie
