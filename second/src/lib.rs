@@ -16,6 +16,7 @@ pub mod file;
 mod interval;
 mod level;
 pub mod lister;
+pub mod mirror;
 mod points;
 pub mod questions;
 pub mod refine;

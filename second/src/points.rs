@@ -1,5 +1,6 @@
 //! Document 01, "Points": where the vertices of the new level lie; document 02,
-//! §4, "The weight from the paper": inner vertices with the weight chosen.
+//! §4, "The weight from the paper": inner vertices with the weight chosen; §5,
+//! "Left and right pads": halves round away from zero.
 
 use std::collections::HashMap;
 
@@ -29,15 +30,17 @@ impl Blend {
             let coordinate = |vertex: usize| i128::from(level.points[3 * vertex + axis]);
             let terms = self.terms.iter();
             let numerator = terms.map(|&(weight, vertex)| weight * coordinate(vertex));
-            round_halves_up(numerator.sum(), self.denominator) as i32
+            round_halves_away(numerator.sum(), self.denominator) as i32
         })
     }
 }
 
 /// The nearest whole number to a fraction with a positive denominator, halves
-/// going up.
-fn round_halves_up(numerator: i128, denominator: i128) -> i128 {
-    (2 * numerator + denominator).div_euclid(2 * denominator)
+/// going away from zero: the size is rounded with halves going up, the sign is
+/// kept.
+fn round_halves_away(numerator: i128, denominator: i128) -> i128 {
+    let size = (2 * numerator.abs() + denominator) / (2 * denominator);
+    numerator.signum() * size
 }
 
 /// The rule of each old vertex, by vertex number.
@@ -132,16 +135,56 @@ fn spokes(level: &Cage) -> Vec<Vec<usize>> {
 
 #[cfg(test)]
 mod tests {
-    use super::round_halves_up;
+    use super::round_halves_away;
+
+    /// P10 as document 02, §5 has it.
+    #[test]
+    fn the_three_roundings() {
+        assert_eq!(round_halves_away(12, 8), 2);
+        assert_eq!(round_halves_away(-12, 8), -2);
+        assert_eq!(round_halves_away(-13, 8), -2);
+    }
 
     #[test]
-    fn halves_go_up() {
-        assert_eq!(round_halves_up(12, 8), 2);
-        assert_eq!(round_halves_up(-12, 8), -1);
-        assert_eq!(round_halves_up(-13, 8), -2);
-        assert_eq!(round_halves_up(11, 8), 1);
-        assert_eq!(round_halves_up(-4, 8), 0);
-        assert_eq!(round_halves_up(-5, 8), -1);
-        assert_eq!(round_halves_up(0, 24), 0);
+    fn halves_go_away_from_zero() {
+        assert_eq!(round_halves_away(4, 8), 1);
+        assert_eq!(round_halves_away(-4, 8), -1);
+        assert_eq!(round_halves_away(20, 8), 3);
+        assert_eq!(round_halves_away(-20, 8), -3);
+        assert_eq!(round_halves_away(1, 2), 1);
+        assert_eq!(round_halves_away(-1, 2), -1);
+    }
+
+    #[test]
+    fn beside_a_half_the_nearest_is_taken() {
+        assert_eq!(round_halves_away(11, 8), 1);
+        assert_eq!(round_halves_away(-11, 8), -1);
+        assert_eq!(round_halves_away(13, 8), 2);
+        assert_eq!(round_halves_away(3, 8), 0);
+        assert_eq!(round_halves_away(-3, 8), 0);
+        assert_eq!(round_halves_away(5, 8), 1);
+        assert_eq!(round_halves_away(-5, 8), -1);
+        assert_eq!(round_halves_away(0, 24), 0);
+        assert_eq!(round_halves_away(-16, 8), -2);
+    }
+
+    /// An odd denominator has no halves.
+    #[test]
+    fn thirds_go_to_the_nearest() {
+        let thirds = [-5, -4, -3, -2, -1, 0, 1, 2, 3, 4, 5];
+        let rounded = thirds.map(|numerator| round_halves_away(numerator, 3));
+        assert_eq!(rounded, [-2, -1, -1, -1, 0, 0, 0, 1, 1, 1, 2]);
+    }
+
+    /// What mirrored pairs rest on.
+    #[test]
+    fn a_negated_fraction_is_rounded_to_the_negated_number() {
+        for denominator in [1, 2, 3, 8, 16, 24, 256, 1 << 24] {
+            for numerator in (0..=100).chain((1 << 23) - 100..=(1 << 23) + 100) {
+                let positive = round_halves_away(numerator, denominator);
+                let negative = round_halves_away(-numerator, denominator);
+                assert_eq!(negative, -positive, "{numerator}/{denominator}");
+            }
+        }
     }
 }

@@ -1,4 +1,4 @@
-//! Document 01, "Cages to try": P1 to P10.
+//! Document 01, "Cages to try": P1 to P10, of which document 02, §5 changes P10.
 
 mod common;
 
@@ -89,10 +89,10 @@ fn p9_a_twin_of_its_own() {
     assert_eq!(check(&cage), Err(Refusal::new(3, 0)));
 }
 
-/// Vertex 0 goes to (6v+a+b)/8: 12/8, −12/8 and −13/8.
+/// Vertex 0 goes to (6v+a+b)/8: 12/8, −12/8 and −13/8. "−12/8 becomes −2."
 #[test]
 fn p10_three_roundings() {
     let cage = triangle([2, -2, -2, 0, 0, -1, 0, 0, 0]);
     let level = levels(&cage, 1).remove(1);
-    assert_eq!(level.points[..3], [2, -1, -2]);
+    assert_eq!(level.points[..3], [2, -2, -2]);
 }

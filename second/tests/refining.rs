@@ -110,21 +110,24 @@ fn assert_same_surfaces(weight: Weight, cages: Vec<SuiteCage>) {
     }
 }
 
-/// The weights of every rule add up to one. Halved, a cage can be moved and
-/// stay in range.
+/// The weights of every rule add up to one. A quarter of its size, a cage can be
+/// moved to either side of zero and stay in range; on one side all halves go the
+/// same way, so that the cage can be moved on and gives the same levels.
 #[test]
-fn a_moved_cage_gives_moved_levels() {
-    let halved_and_moved = |cage: &Cage, by: i32| Cage {
-        points: cage.points.iter().map(|c| c / 2 + by).collect(),
-        ..cage.clone()
-    };
+fn a_cage_moved_on_one_side_of_zero_gives_moved_levels() {
     for weight in WEIGHTS {
         for entry in refinable(weight, small_accepted()) {
-            let here = levels_with(weight, &halved_and_moved(&entry.cage, 0), 2);
-            let there = levels_with(weight, &halved_and_moved(&entry.cage, 77), 2);
-            for (here, there) in here.iter().zip(&there) {
-                let moved: Vec<i32> = here.points.iter().map(|c| c + 77).collect();
-                assert_eq!(moved, there.points, "{}", entry.name);
+            for (to, by) in [(262_144, 77), (-262_144, -77)] {
+                let quartered = |by: i32| Cage {
+                    points: entry.cage.points.iter().map(|c| c / 4 + by).collect(),
+                    ..entry.cage.clone()
+                };
+                let here = levels_with(weight, &quartered(to), 2);
+                let there = levels_with(weight, &quartered(to + by), 2);
+                for (here, there) in here.iter().zip(&there) {
+                    let moved: Vec<i32> = here.points.iter().map(|c| c + by).collect();
+                    assert_eq!(moved, there.points, "{}", entry.name);
+                }
             }
         }
     }

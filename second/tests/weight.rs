@@ -3,8 +3,8 @@
 mod common;
 
 use common::{
-    corners, document_pillow, file_of, levels, levels_with, lowest_of_many_corners, refinable,
-    refined_into, room, small_accepted, WEIGHTS,
+    corner_sums, corners, document_pillow, file_of, levels, levels_with, lowest_of_many_corners,
+    refinable, refined_into, room, rounded, small_accepted, CornerSum, WEIGHTS,
 };
 use second::cage::Cage;
 use second::check::check;
@@ -99,7 +99,7 @@ fn six_corners_at_each_vertex_make_no_difference() {
         let [short, paper] = WEIGHTS.map(|weight| levels_with(weight, &cage, 4));
         assert_eq!(short, paper, "{name}");
         for at in corner_sums(&cage) {
-            let said = (10 * at.own + at.spokes + 8).div_euclid(16);
+            let said = rounded(10 * at.own + at.spokes, 16);
             assert_eq!(i64::from(paper[1].points[at.index]), said, "{name}");
         }
     }
@@ -128,43 +128,11 @@ fn all_else_stays_as_it_is() {
     assert!(different > 1_000, "{different}");
 }
 
-/// One coordinate of an inner vertex: its index in the points, its corners, the
-/// coordinate itself and the sum over the spokes' far ends.
-struct CornerSum {
-    index: usize,
-    corners: usize,
-    own: i64,
-    spokes: i64,
-}
-
-/// Those of all inner vertices of a level.
-fn corner_sums(level: &Cage) -> Vec<CornerSum> {
-    let coordinate = |vertex: u32, axis: usize| i64::from(level.points[3 * vertex as usize + axis]);
-    let mut spokes = vec![0; level.points.len()];
-    for corners in level.vert.chunks(3) {
-        for (at, &from) in corners.iter().enumerate() {
-            for axis in 0..3 {
-                spokes[3 * from as usize + axis] += coordinate(corners[(at + 1) % 3], axis);
-            }
-        }
-    }
-    let corners = corners(level);
-    let sum = |(index, &spokes): (usize, &i64)| CornerSum {
-        index,
-        corners: corners[index / 3].0,
-        own: level.points[index].into(),
-        spokes,
-    };
-    let all = spokes.iter().enumerate();
-    let inner = all.filter(|(index, _)| !corners[index / 3].1);
-    inner.map(sum).collect()
-}
-
-/// "((2^24−n·w)·v + w·s)/2^24, rounded as before": halves going up.
+/// "((2^24−n·w)·v + w·s)/2^24, rounded as before": since §5 with halves going
+/// away from zero.
 fn said(at: &CornerSum, part: i64) -> i64 {
     let own = 16_777_216 - at.corners as i64 * part;
-    let numerator = own * at.own + part * at.spokes;
-    (numerator + 8_388_608).div_euclid(16_777_216)
+    rounded(own * at.own + part * at.spokes, 16_777_216)
 }
 
 #[test]

@@ -1,7 +1,6 @@
 //! For trying what document 01 says in "Why a cage is sent back": accepted
 //! cages with one cell changed or two cells exchanged, whatever the answer.
 
-use super::SuiteCage;
 use crate::cage::{Cage, COORDINATE_LIMIT, MARKER};
 use crate::draw::Draw;
 
@@ -10,14 +9,14 @@ const CHANGES: usize = 5;
 const MOST_HALFEDGES: usize = 60;
 
 /// Each changed cage with its name.
-pub(super) fn changed_cages(accepted: &[SuiteCage]) -> Vec<(String, Cage)> {
+pub(super) fn changed_cages(accepted: &[(String, Cage)]) -> Vec<(String, Cage)> {
     let draw = &mut Draw::new(8);
     let mut cages = Vec::new();
-    for entry in accepted {
-        if entry.cage.halfedge_count() <= MOST_HALFEDGES {
+    for (name, cage) in accepted {
+        if cage.halfedge_count() <= MOST_HALFEDGES {
             cages.extend((0..CHANGES).map(|number| {
-                let name = format!("{}-changed-{number}", entry.name);
-                (name, changed(&entry.cage, draw))
+                let name = format!("{name}-changed-{number}");
+                (name, changed(cage, draw))
             }));
         }
     }

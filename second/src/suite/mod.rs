@@ -6,6 +6,7 @@ mod cushion;
 mod damaged;
 mod disguise;
 mod drawn;
+mod halves;
 mod shapes;
 mod valences;
 mod valid;
@@ -38,27 +39,46 @@ impl SuiteCage {
 
 /// The whole suite, the accepted cages first. No two have the same name.
 pub fn suite() -> Vec<SuiteCage> {
-    let accepted = accepted_cages();
-    let unforeseen = [drawn::refused_cages(), changed::changed_cages(&accepted)].concat();
-    let unforeseen = entries(unforeseen, Expected::Unforeseen);
-    [accepted, damaged::damaged_cages(), unforeseen].concat()
+    let shaped = shaped_cages();
+    let unforeseen = [drawn::refused_cages(), changed::changed_cages(&shaped)].concat();
+    [
+        accepted(shaped),
+        damaged::damaged_cages(),
+        entries(unforeseen, Expected::Unforeseen),
+    ]
+    .concat()
 }
 
-/// The cages that have to be accepted: each as it was built, then each again
+/// The cages that have to be accepted: each as it was built, and each again
 /// under other numbers.
 pub fn accepted_cages() -> Vec<SuiteCage> {
+    accepted(shaped_cages())
+}
+
+/// These cages, then those that are there for their points alone.
+fn accepted(shaped: Vec<(String, Cage)>) -> Vec<SuiteCage> {
+    let halves = with_disguised(halves::halves_cages());
+    entries([shaped, halves].concat(), Expected::Accepted)
+}
+
+/// The accepted cages that are there for their tables too.
+fn shaped_cages() -> Vec<(String, Cage)> {
     let built = [
         valid::built_cages(),
         drawn::accepted_cages(),
         valences::valence_cages(),
-    ]
-    .concat();
+    ];
+    with_disguised(built.concat())
+}
+
+/// Each cage as it was built, then each again under other numbers.
+fn with_disguised(built: Vec<(String, Cage)>) -> Vec<(String, Cage)> {
     let disguised = (0..).zip(&built).map(|(seed, (name, cage))| {
         let name = format!("{name}-disguised");
         (name, disguise::disguised(cage, seed))
     });
     let disguised = disguised.collect();
-    entries([built, disguised].concat(), Expected::Accepted)
+    [built, disguised].concat()
 }
 
 fn entries(cages: Vec<(String, Cage)>, expected: Expected) -> Vec<SuiteCage> {

@@ -26,7 +26,7 @@ pub(super) fn valence_cages() -> Vec<(String, Cage)> {
 }
 
 /// Two hubs of this valence, on a rim of vertices of four corners.
-fn closed(valence: u32) -> Cage {
+pub(super) fn closed(valence: u32) -> Cage {
     match valence {
         2 => twofold_pyramid(),
         _ => double_pyramid(valence),
@@ -34,7 +34,7 @@ fn closed(valence: u32) -> Cage {
 }
 
 /// A hub of this valence, inside a rim on the border.
-fn open(valence: u32) -> Cage {
+pub(super) fn open(valence: u32) -> Cage {
     match valence {
         2 => slit(&pillow(), 0),
         _ => disc(valence),

@@ -2,6 +2,8 @@
 
 #![allow(dead_code)]
 
+use std::cmp::Ordering;
+
 use second::cage::{Cage, MARKER};
 use second::counts::LevelCounts;
 use second::file::write_cage_file;
@@ -149,6 +151,55 @@ pub fn lowest_of_many_corners(level: &Cage) -> Option<usize> {
     let corners = corners(level);
     let is_such = |&(count, on_border): &(usize, bool)| count > 32 && !on_border;
     corners.iter().position(is_such)
+}
+
+/// One coordinate of an inner vertex: its index in the points, its corners, the
+/// coordinate itself and the sum over the spokes' far ends.
+pub struct CornerSum {
+    pub index: usize,
+    pub corners: usize,
+    pub own: i64,
+    pub spokes: i64,
+}
+
+/// Those of all inner vertices of a level.
+pub fn corner_sums(level: &Cage) -> Vec<CornerSum> {
+    let coordinate = |vertex: u32, axis: usize| i64::from(level.points[3 * vertex as usize + axis]);
+    let mut spokes = vec![0; level.points.len()];
+    for corners in level.vert.chunks(3) {
+        for (at, &from) in corners.iter().enumerate() {
+            for axis in 0..3 {
+                spokes[3 * from as usize + axis] += coordinate(corners[(at + 1) % 3], axis);
+            }
+        }
+    }
+    let corners = corners(level);
+    let sum = |(index, &spokes): (usize, &i64)| CornerSum {
+        index,
+        corners: corners[index / 3].0,
+        own: level.points[index].into(),
+        spokes,
+    };
+    let all = spokes.iter().enumerate();
+    let inner = all.filter(|(index, _)| !corners[index / 3].1);
+    inner.map(sum).collect()
+}
+
+/// A fraction with a positive denominator, rounded to the nearest whole number.
+/// Of the two beside a half the upper one is taken where this says so of the lower.
+pub fn rounded_by(numerator: i64, denominator: i64, takes_upper: fn(i64) -> bool) -> i64 {
+    let lower = numerator.div_euclid(denominator);
+    let is_upper = match (2 * numerator.rem_euclid(denominator)).cmp(&denominator) {
+        Ordering::Less => false,
+        Ordering::Equal => takes_upper(lower),
+        Ordering::Greater => true,
+    };
+    lower + i64::from(is_upper)
+}
+
+/// Document 02, §5: "halves shall round away from zero".
+pub fn rounded(numerator: i64, denominator: i64) -> i64 {
+    rounded_by(numerator, denominator, |lower| lower >= 0)
 }
 
 /// The cage file of an accepted cage.
