@@ -7,7 +7,6 @@ use native.Mathlib.Omega.{arith}
 use lib.Dec.{eqb, ltb}
 use lib.IntN.{ℤ}
 use lib.ListN.{length}
-use Rattle.laws.specs.Below.{tabulate}
 use Rattle.laws.specs.Totals.{total}
 use Rattle.laws.proofs.Tabulate.{tabulate-ext}
 use Rattle.halfedges.specs.declared.table.HalfedgeTable.{HalfedgeTable}

@@ -1,10 +1,10 @@
 -- The spokes' shares. Assumes nothing.
 --     entries-below                  "Across the table, n·w is below 2^24", by one computed test over it
 --     shares-within                  so by either weight n spokes have no more than the whole
---     whole-some, whole-small        which is some, and no large number
+--     whole-some, -small, -even      which is some, no large number, and even
 --     paper-else                     every number but 0 is the paper's weight
 --     below, past, listed            the entry of a valence, by where it lies
-use Prim.Native.Nat.{ℕ, zero, suc, _-_, _*_, _^_, _≤_, _<_}
+use Prim.Native.Nat.{ℕ, zero, suc, _-_, _*_, _%_, _^_, _≤_, _<_}
 use mathlib.Core.Path.{_≡_, refl}
 use mathlib.Core.Logic.{_≢_}
 use mathlib.Core.Bool.{false}
@@ -59,6 +59,10 @@ whole-some Paper n some = omega arith
 pub whole-small : (w : Weight) (n : ℕ) → n ≤ most-corners → share w n .whole ≤ 2 ^ 24
 whole-small Short n few = omega arith
 whole-small Paper n few = omega arith
+
+pub whole-even : (w : Weight) (n : ℕ) → share w n .whole % 2 ≡ 0
+whole-even Short n = omega arith
+whole-even Paper n = refl
 
 pub paper-else : (n : ℕ) → n ≢ 0 → weightOf n ≡ Paper
 paper-else zero some = absurd (some refl)

@@ -2,11 +2,11 @@
 -- number, `scaled-neg`; what was scaled before, `scaled-twice`. Assumes nothing.
 use Prim.Native.Nat.{ℕ, zero, suc, _+_, _*_, _<_}
 use mathlib.Core.Path.{_≡_, refl, sym, ap, _∙_}
-use native.Mathlib.Nat.{mul-zero, mul-assoc, mul-comm, mul-add, mul-div-mul-left}
+use native.Mathlib.Nat.{mul-zero, mul-assoc, mul-add, mul-div-mul-left}
 use lib.IntN.{ℤ, pos, negsuc, negℤ, negℤ-negℤ, _+ℤ_, _*ℤ_, zero-*ℤ, sucℤ-*ℤ}
 use Rattle.laws.proofs.Integers.{add-swap}
 use Rattle.rounding.specs.Rounding.{nearest, round}
-use Rattle.rounding.proofs.Nearest.{round-odd}
+use Rattle.rounding.proofs.Nearest.{doubled, round-odd}
 
 pub scaled-sum : (c : ℕ) (a b : ℤ) → pos c *ℤ (a +ℤ b) ≡ pos c *ℤ a +ℤ pos c *ℤ b
 scaled-sum zero a b = rw (zero-*ℤ (a +ℤ b), zero-*ℤ a, zero-*ℤ b)
@@ -28,9 +28,7 @@ scaled-twice a b (negsuc n) = scaled-neg a (pos (b * suc n)) ∙ ap (λ k. neg�
 -- terms that are c times as large
 nearest-scaled : (c : ℕ) → 0 < c → (n d : ℕ) → nearest (c * n) (c * d) ≡ nearest n d
 nearest-scaled c some n d =
-    let top : 2 * (c * n) + c * d ≡ c * (2 * n + d) = rw (mul-add c (2 * n) d, ← mul-assoc c 2 n, mul-comm c 2, mul-assoc 2 c n) in
-    let bottom : 2 * (c * d) ≡ c * (2 * d) = rw (← mul-assoc c 2 d, mul-comm c 2, mul-assoc 2 c d) in
-    rw (top, bottom) (mul-div-mul-left (2 * n + d) (2 * d) some)
+    rw (← doubled c n, ← doubled c d, ← mul-add c (2 * n) d) (mul-div-mul-left (2 * n + d) (2 * d) some)
 
 pub round-scaled : (c : ℕ) → 0 < c → (n : ℤ) (d : ℕ) → round (pos c *ℤ n) (c * d) ≡ round n d
 unfolding round

@@ -14,7 +14,7 @@ use Rattle.rounding.proofs.floor_division.Statement.{statement}
 use Rattle.rounding.proofs.floor_division.Tie as tie
 
 abbrev wholes : ℕ
-wholes = 2147483648
+wholes = 4294967296
 
 module _ (s : tie.Start) where
   abbrev n : ℤ

@@ -1,18 +1,17 @@
 -- `rounded` is a floor, by `round-by-floor`, and `round-at-most` says that the result can be narrowed.
-use Prim.Native.Nat.{_+_, _*_, _^_, _≤_, _<_}
+use Prim.Native.Nat.{ℕ, _+_, _*_, _/_, _^_, _≤_, _<_}
 use mathlib.Core.Path.{_≡_, ap, _∙_}
 use native.Mathlib.Nat.{div-eq-of-lt}
 use native.Mathlib.Omega.{arith}
-use lib.Dec.{lt→ltb}
-use lib.IntN.{ℤ, pos, negsuc, natAbs, _+ℤ_, _*ℤ_}
-use lib.Signed.{_<ℤ_}
+use lib.IntN.{ℤ, pos, negsuc, natAbs, _+ℤ_}
+use lib.Signed.{quotZ}
 use mir.Syntax.{w32, w64}
 use mir.Val.{SFits, toZ, ofZ}
 use mir.Facts.{toZ-ofZ}
-use Rattle.laws.proofs.Integers.{natAbs-mul, pos-of, small-fits, scaled-fits, back-of}
+use Rattle.laws.proofs.Integers.{natAbs-add, pos-of, small-fits, back-of}
 use Rattle.rounding.specs.Rounding.{round}
 use Rattle.rounding.specs.Internal.Floor.{floor}
-use Rattle.rounding.proofs.Nearest.{round-at-most, signOf, lowered, lowered-at-most, round-by-floor}
+use Rattle.rounding.proofs.Nearest.{round-at-most, signOf, lowered, round-by-floor}
 use Rattle.rounding.proofs.rounded.Statement.{statement}
 use Rattle.rounding.proofs.rounded.Tie as tie
 
@@ -29,14 +28,26 @@ module _ (s : tie.Start) where
   abbrev n : ℤ
   n = s .args .numerator
 
-  abbrev d : ℤ
-  d = s .args .denominator
+  abbrev d : ℕ
+  d = natAbs (s .args .denominator)
 
-  denominator-is : d ≡ pos (natAbs d)
-  denominator-is = pos-of d (s .pre .0) .0
+  abbrev h : ℕ
+  h = d / 2
 
-  some : 0 < natAbs d
-  some = pos-of d (s .pre .0) .1
+  denominator-is : s .args .denominator ≡ pos d
+  denominator-is = pos-of _ (s .pre .0) .0
+
+  some : 0 < d
+  some = pos-of _ (s .pre .0) .1
+
+  even : d ≡ 2 * h
+  even = omega (arith, s .pre .3)
+
+  half-is : quotZ (s .args .denominator) (pos 2) ≡ pos h
+  half-is = ap (λ z. quotZ z (pos 2)) denominator-is
+
+  half-fits : SFits w64 (pos h)
+  half-fits = small-fits w64 _ (omega (arith, s .pre .1))
 
   sign-fits : SFits w64 (signOf n)
   sign-fits = small-fits w64 _ (omega (arith, sign-small n))
@@ -44,55 +55,43 @@ module _ (s : tie.Start) where
   sign : toZ w64 (ofZ w64 (floor n (2 ^ 63))) ≡ signOf n
   sign = rw (sign-is n (s .fits .numerator)) (toZ-ofZ sign-fits)
 
-  signed-fits : SFits w64 (pos 2 *ℤ n) × SFits w64 (pos 2 *ℤ n +ℤ signOf n)
-  signed-fits = scaled-fits w64 2 n (signOf n) (omega (arith, sign-small n))
+  signed-small : natAbs (n +ℤ signOf n) ≤ natAbs n + 1
+  signed-small = omega (arith, natAbs-add n (signOf n), sign-small n)
 
-  top-small : natAbs (lowered n d) ≤ 2 * natAbs n + natAbs d
-  top-small = rw (← denominator-is) at (lowered-at-most (natAbs d) some n)
+  signed-fits : SFits w64 (n +ℤ signOf n)
+  signed-fits = small-fits w64 _ (omega (arith, signed-small, s .pre .1, s .pre .2))
 
-  top-fits : SFits w64 (lowered n d)
-  top-fits = small-fits w64 _ (omega (arith, s .pre .1, s .pre .2, top-small))
+  top-small : natAbs (lowered n h) ≤ natAbs n + 1 + h
+  top-small = omega (arith, signed-small, natAbs-add (n +ℤ signOf n) (pos h))
 
-  bottom-fits : SFits w64 (pos 2 *ℤ d)
-  bottom-fits = scaled-fits w64 2 d n (omega arith) .0
+  top-fits : SFits w64 (lowered n h)
+  top-fits = small-fits w64 _ (omega (arith, top-small, s .pre .1, s .pre .2))
 
-  is-floor : floor (lowered n d) (natAbs (pos 2 *ℤ d)) ≡ round n (natAbs d)
-  is-floor =
-      rw (natAbs-mul (pos 2) d) (ap (λ z. floor (lowered n z) (2 * natAbs d)) denominator-is ∙ round-by-floor (natAbs d) some n)
+  is-floor : floor (lowered n h) d ≡ round n d
+  is-floor = ap (λ k. floor (lowered n h) k) even ∙ round-by-floor h (omega (arith, some, even)) n ∙ ap (λ k. round n k) (omega (arith, even))
 
-  narrow : SFits w32 (round n (natAbs d))
-  narrow = small-fits w32 _ (omega (arith, round-at-most 2147483647 (natAbs d) some n (s .pre .2)))
-
--- twice a positive number
-twice : (d : ℤ) → pos 0 <ℤ d → pos 0 <ℤ (pos 2 *ℤ d)
-twice d l =
-    let p = pos-of d l in
-    let k : 0 < 2 * natAbs d = omega (arith, p .1) in
-    rw (p .0) (record { lt = lt→ltb 0 (2 * natAbs d) k })
-
-mul-top : tie.Need-mul-top
-mul-top s = rw (toZ-ofZ (s .fits .numerator)) (signed-fits s .0)
+  narrow : SFits w32 (round n d)
+  narrow = small-fits w32 _ (omega (arith, round-at-most 2147483647 d some n (s .pre .2)))
 
 add-top : tie.Need-add-top
-add-top s = rw (toZ-ofZ (s .fits .numerator), toZ-ofZ (signed-fits s .0), sign s) (signed-fits s .1)
+add-top s = rw (toZ-ofZ (s .fits .numerator), sign s) (signed-fits s)
+
+div-top : tie.Need-div-top
+div-top s = rw (toZ-ofZ (s .fits .denominator), half-is s) (omega arith, half-fits s)
 
 add-top-2 : tie.Need-add-top-2
 add-top-2 s =
-    rw (toZ-ofZ (s .fits .numerator), toZ-ofZ (s .fits .denominator), toZ-ofZ (signed-fits s .0), sign s, toZ-ofZ (signed-fits s .1)) (top-fits s)
-
-mul-bottom : tie.Need-mul-bottom
-mul-bottom s = rw (toZ-ofZ (s .fits .denominator)) (bottom-fits s)
+    rw (toZ-ofZ (s .fits .numerator), toZ-ofZ (s .fits .denominator), sign s, half-is s, toZ-ofZ (half-fits s), toZ-ofZ (signed-fits s)) (top-fits s)
 
 floor-division-requires : tie.Need-floor-division-requires
 floor-division-requires s κs =
-    let bottom = natAbs-mul (pos 2) (d s) in
-    rw (toZ-ofZ (s .fits .numerator), toZ-ofZ (s .fits .denominator), toZ-ofZ (signed-fits s .0), sign s, toZ-ofZ (signed-fits s .1), toZ-ofZ (top-fits s), toZ-ofZ (bottom-fits s))
-    (twice _ (s .pre .0), omega (arith, s .pre .1, bottom), omega (arith, s .pre .2, top-small s, bottom, some s))
+    rw (toZ-ofZ (s .fits .numerator), toZ-ofZ (s .fits .denominator), sign s, half-is s, toZ-ofZ (half-fits s), toZ-ofZ (signed-fits s), toZ-ofZ (top-fits s))
+    (s .pre .0, s .pre .1, omega (arith, s .pre .2, top-small s, some s))
 
 result : (c : tie.After-floor-division) → c .floor-division .result ≡ round (c .before .args .numerator) (natAbs (c .before .args .denominator))
 result c =
     let s = c .before in
-    (rw (toZ-ofZ (s .fits .numerator), toZ-ofZ (s .fits .denominator), toZ-ofZ (signed-fits s .0), sign s, toZ-ofZ (signed-fits s .1), toZ-ofZ (top-fits s), toZ-ofZ (bottom-fits s)) at (c .floor-division .ensures))
+    (rw (toZ-ofZ (s .fits .numerator), toZ-ofZ (s .fits .denominator), sign s, half-is s, toZ-ofZ (half-fits s), toZ-ofZ (signed-fits s), toZ-ofZ (top-fits s)) at (c .floor-division .ensures))
     ∙ is-floor s
 
 cast-result : tie.Need-cast-result
@@ -103,4 +102,4 @@ returns c = rw (back-of w64 _ (c .floor-division .ok), result c, toZ-ofZ (narrow
 
 pub rounded-spec : {M : Type 1} → statement M
 rounded-spec =
-    tie.close (tie.spec mul-top add-top add-top-2 mul-bottom floor-division-requires cast-result returns)
+    tie.close (tie.spec add-top div-top add-top-2 floor-division-requires cast-result returns)

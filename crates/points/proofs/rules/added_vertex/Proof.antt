@@ -1,6 +1,6 @@
 -- `added_vertex` rounds V.3's numerator at six corners in its lowest terms, as `V3-six` has it, which the coordinates keep small.
 use Prim.Native.Nat.{_*_, _≤_}
-use mathlib.Core.Path.{sym, _∙_}
+use mathlib.Core.Path.{refl, sym, _∙_}
 use native.Mathlib.Omega.{arith}
 use lib.IntN.{pos, natAbs, _+ℤ_, _*ℤ_}
 use lib.Signed.{ltZ-yes}
@@ -36,7 +36,7 @@ cast-numerator : tie.Need-cast-numerator
 cast-numerator s = simp (toZ-ofZ (s .fits .vertex), toZ-ofZ (s .fits .sum), toZ-ofZ (ten-fits s), toZ-ofZ (fits s)) (wide s)
 
 rounded-requires : tie.Need-rounded-requires
-rounded-requires s κs = simp (toZ-ofZ (s .fits .vertex), toZ-ofZ (s .fits .sum), toZ-ofZ (ten-fits s), toZ-ofZ (fits s), toZ-ofZ (wide s)) (ltZ-yes tt, omega arith, omega (arith, small s))
+rounded-requires s κs = simp (toZ-ofZ (s .fits .vertex), toZ-ofZ (s .fits .sum), toZ-ofZ (ten-fits s), toZ-ofZ (fits s), toZ-ofZ (wide s)) (ltZ-yes tt, omega arith, omega (arith, small s), refl)
 
 returns : tie.Need-returns
 returns c =

@@ -1,5 +1,6 @@
 -- `border_edge` rounds E.1's numerator, which two coordinates keep small.
 use Prim.Native.Nat.{_*_, _≤_}
+use mathlib.Core.Path.{refl}
 use native.Mathlib.Omega.{arith}
 use lib.IntN.{natAbs, _+ℤ_}
 use lib.Signed.{ltZ-yes}
@@ -30,7 +31,7 @@ add-numerator : tie.Need-add-numerator
 add-numerator s = simp (widened (s .fits .a), widened (s .fits .b)) (fits s)
 
 rounded-requires : tie.Need-rounded-requires
-rounded-requires s κs = simp (widened (s .fits .a), widened (s .fits .b), toZ-ofZ (fits s)) (ltZ-yes tt, omega arith, omega (arith, small s))
+rounded-requires s κs = simp (widened (s .fits .a), widened (s .fits .b), toZ-ofZ (fits s)) (ltZ-yes tt, omega arith, omega (arith, small s), refl)
 
 returns : tie.Need-returns
 unfolding E1

@@ -1,6 +1,6 @@
 -- `border_vertex` goes by the same test as its definition; the coordinates keep both numbers small, and what is no place has the mark.
 use Prim.Native.Nat.{_+_, _≤_}
-use mathlib.Core.Path.{_≡_, _∙_}
+use mathlib.Core.Path.{_≡_, refl, _∙_}
 use mathlib.Core.Bool.{true, false}
 use native.Mathlib.Omega.{arith}
 use lib.IntN.{ℤ, pos, natAbs, _+ℤ_, _-ℤ_, _*ℤ_}
@@ -79,7 +79,7 @@ cast-numerator c = simp (toZ-ofZ (c .before .fits .now), toZ-ofZ (c .before .fit
 rounded-requires : tie.Need-rounded-requires
 rounded-requires c κs =
     simp (toZ-ofZ (c .before .fits .now), toZ-ofZ (c .before .fits .neighbour), toZ-ofZ (unmarked-fits c), toZ-ofZ (fits c), toZ-ofZ (wide c))
-    (ltZ-yes tt, omega arith, omega (arith, small c))
+    (ltZ-yes tt, omega arith, omega (arith, small c), refl)
 
 returns-2 : tie.Need-returns-2
 unfolding met

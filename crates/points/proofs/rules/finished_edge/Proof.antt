@@ -1,5 +1,6 @@
 -- `finished_edge` rounds E.2's numerator, which the sum and the coordinate keep small.
 use Prim.Native.Nat.{_*_, _≤_}
+use mathlib.Core.Path.{refl}
 use native.Mathlib.Omega.{arith}
 use lib.IntN.{ℤ, natAbs, _+ℤ_}
 use lib.Signed.{ltZ-yes}
@@ -31,7 +32,7 @@ cast-numerator : tie.Need-cast-numerator
 cast-numerator s = simp (toZ-ofZ (s .fits .sum), toZ-ofZ (s .fits .d), toZ-ofZ (fits s)) (wide s)
 
 rounded-requires : tie.Need-rounded-requires
-rounded-requires s κs = simp (toZ-ofZ (s .fits .sum), toZ-ofZ (s .fits .d), toZ-ofZ (fits s), toZ-ofZ (wide s)) (ltZ-yes tt, omega arith, omega (arith, small s))
+rounded-requires s κs = simp (toZ-ofZ (s .fits .sum), toZ-ofZ (s .fits .d), toZ-ofZ (fits s), toZ-ofZ (wide s)) (ltZ-yes tt, omega arith, omega (arith, small s), refl)
 
 returns : tie.Need-returns
 returns c =

@@ -13,7 +13,7 @@ use Rattle.laws.proofs.Integers.{natAbs-mul, small-fits, back-of, widened}
 use Rattle.points.specs.Weights.{share}
 use Rattle.points.specs.PointRules.{V3}
 use Rattle.points.specs.Operations.{most-coordinate}
-use Rattle.points.proofs.Shares.{shares-within, whole-some, whole-small}
+use Rattle.points.proofs.Shares.{shares-within, whole-some, whole-small, whole-even}
 use Rattle.points.proofs.Numerators.{V3-parts, V3-numerator}
 use Rattle.points.proofs.rules.inner_vertex.Statement.{statement}
 use Rattle.points.proofs.rules.inner_vertex.Tie as tie
@@ -112,7 +112,7 @@ rounded-requires : tie.Need-rounded-requires
 rounded-requires c κs =
     let s = c .before in
     simp (c .share .ensures, left-same s, part-same s, whole-same s, widened (s .fits .vertex), widened (s .fits .sum), toZ-ofZ (left-fits s), toZ-ofZ (part-fits s), toZ-ofZ (fits s))
-    (record { lt = lt→ltb 0 (whole s) (some s) }, omega (arith, few s), omega (arith, small s))
+    (record { lt = lt→ltb 0 (whole s) (some s) }, omega (arith, few s), omega (arith, small s), whole-even (s .args .weight) (n s))
 
 returns : tie.Need-returns
 unfolding V3
