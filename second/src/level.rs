@@ -15,9 +15,12 @@ pub(crate) fn next_level(level: &Cage, weight: Weight) -> Cage {
     };
     let corner_triangles = level.halfedges().flat_map(|h| old.corner_triangle(h));
     let middle_halfedges = level.halfedges().map(|h| old.middle_halfedge(h));
+    let table_of_4h = || Vec::with_capacity(4 * old.halfedge_count);
     let mut new_level = Cage {
+        twin: table_of_4h(),
+        vert: table_of_4h(),
+        edge: table_of_4h(),
         points: next_points(level, weight),
-        ..Cage::default()
     };
     for halfedge in corner_triangles.chain(middle_halfedges) {
         halfedge.append_to(&mut new_level);

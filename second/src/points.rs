@@ -2,7 +2,7 @@
 //! §4, "The weight from the paper": inner vertices with the weight chosen; §5,
 //! "Left and right pads": halves round away from zero.
 
-use std::collections::HashMap;
+use std::ops::{Add, AddAssign, Mul};
 
 use crate::cage::Cage;
 use crate::weight::{paper_part, Weight, WHOLE};
@@ -11,126 +11,149 @@ use crate::weight::{paper_part, Weight, WHOLE};
 /// paper's weight 14: first those of the old vertices, then one for each old
 /// edge.
 pub(crate) fn next_points(level: &Cage, weight: Weight) -> Vec<i32> {
-    let vertices = vertex_blends(level, weight).into_iter();
-    let blends = vertices.chain(edge_blends(level));
-    blends.flat_map(|blend| blend.point(level)).collect()
+    let points = [vertex_points(level, weight), edge_points(level)];
+    points.concat().into_flattened()
 }
 
-/// A weighted sum of vertices over a denominator.
-struct Blend {
-    terms: Vec<(i128, usize)>,
-    denominator: i128,
+/// A weighted sum of points, exactly: the numerators of x, y and z.
+///
+/// An i64 is enough. Refining has checked that the cage is in range, and so is
+/// every level after it, as its coordinates are averages: at most 2^20 in size.
+/// The weights of a rule are never negative and add up to its denominator: at
+/// most 2^24, or 8n with n at most 1,024, since n corners at a vertex are those
+/// of n triangles of the cage. So a numerator is at most 2^44 in size.
+#[derive(Clone, Copy, Default)]
+struct Sum([i64; 3]);
+
+impl Sum {
+    /// The point of a vertex.
+    fn of(level: &Cage, vertex: usize) -> Sum {
+        let (points, _) = level.points.as_chunks::<3>();
+        Sum(points[vertex].map(i64::from))
+    }
+
+    /// Each coordinate over the denominator, rounded once. An average of i32
+    /// numbers is again an i32 number.
+    fn over(self, denominator: i64) -> [i32; 3] {
+        self.0
+            .map(|numerator| round_halves_away(numerator, denominator) as i32)
+    }
 }
 
-impl Blend {
-    /// Each coordinate exactly, then rounded once. An average of i32 numbers
-    /// is again an i32 number.
-    fn point(&self, level: &Cage) -> [i32; 3] {
-        [0, 1, 2].map(|axis| {
-            let coordinate = |vertex: usize| i128::from(level.points[3 * vertex + axis]);
-            let terms = self.terms.iter();
-            let numerator = terms.map(|&(weight, vertex)| weight * coordinate(vertex));
-            round_halves_away(numerator.sum(), self.denominator) as i32
-        })
+impl Add for Sum {
+    type Output = Sum;
+
+    fn add(self, other: Sum) -> Sum {
+        Sum([0, 1, 2].map(|axis| self.0[axis] + other.0[axis]))
+    }
+}
+
+impl AddAssign for Sum {
+    fn add_assign(&mut self, other: Sum) {
+        *self = *self + other;
+    }
+}
+
+impl Mul<Sum> for i64 {
+    type Output = Sum;
+
+    fn mul(self, sum: Sum) -> Sum {
+        Sum(sum.0.map(|coordinate| self * coordinate))
     }
 }
 
 /// The nearest whole number to a fraction with a positive denominator, halves
 /// going away from zero: the size is rounded with halves going up, the sign is
 /// kept.
-fn round_halves_away(numerator: i128, denominator: i128) -> i128 {
+fn round_halves_away(numerator: i64, denominator: i64) -> i64 {
     let size = (2 * numerator.abs() + denominator) / (2 * denominator);
     numerator.signum() * size
 }
 
-/// The rule of each old vertex, by vertex number.
-fn vertex_blends(level: &Cage, weight: Weight) -> Vec<Blend> {
-    let border_neighbours = border_neighbours(level);
-    let spokes = spokes(level);
-    let blend = |(vertex, far_ends): (usize, &Vec<usize>)| match border_neighbours.get(&vertex) {
-        Some(neighbours) => border_vertex(vertex, neighbours),
-        None => inner_vertex(vertex, far_ends, weight),
-    };
-    spokes.iter().enumerate().map(blend).collect()
-}
-
-/// The rule of each old edge, by edge number.
-fn edge_blends(level: &Cage) -> Vec<Blend> {
-    let halfedge_on: HashMap<usize, usize> =
-        level.halfedges().map(|h| (level.edge_of(h), h)).collect();
-    (0..halfedge_on.len())
-        .filter_map(|edge| halfedge_on.get(&edge))
-        .map(|&h| match level.twin_of(h) {
-            Some(twin) => inner_edge(level, h, twin),
-            None => border_edge(level, h),
-        })
-        .collect()
-}
-
-fn border_edge(level: &Cage, h: usize) -> Blend {
-    Blend {
-        terms: vec![(1, level.vert_of(h)), (1, level.far_end(h))],
-        denominator: 2,
-    }
-}
-
-fn inner_edge(level: &Cage, h: usize, twin: usize) -> Blend {
-    Blend {
-        terms: vec![
-            (3, level.vert_of(h)),
-            (3, level.far_end(h)),
-            (1, level.opposite_corner(h)),
-            (1, level.opposite_corner(twin)),
-        ],
-        denominator: 8,
-    }
-}
-
-fn border_vertex(vertex: usize, neighbours: &[usize]) -> Blend {
-    let neighbours = neighbours.iter().map(|&neighbour| (1, neighbour));
-    Blend {
-        terms: std::iter::once((6, vertex)).chain(neighbours).collect(),
-        denominator: 8,
-    }
-}
-
-/// Short: (5n·v+3s)/(8n). The paper's: ((2^24−n·w)·v + w·s)/2^24.
-fn inner_vertex(vertex: usize, far_ends: &[usize], weight: Weight) -> Blend {
-    let n = far_ends.len() as i128;
-    let (own, spoke, denominator) = match weight {
-        Weight::Short => (5 * n, 3, 8 * n),
-        Weight::Paper => {
-            let part = paper_part(far_ends.len()).expect("a valence that passed 14");
-            let (whole, part) = (i128::from(WHOLE), i128::from(part));
-            (whole - n * part, part, whole)
+/// The new point of each old vertex, by vertex number.
+fn vertex_points(level: &Cage, weight: Weight) -> Vec<[i32; 3]> {
+    let around = border_neighbours(level).into_iter().zip(spokes(level));
+    let point = |(vertex, (neighbours, (n, s)))| {
+        let v = Sum::of(level, vertex);
+        match neighbours {
+            Some(neighbours) => border_vertex(v, neighbours),
+            None => inner_vertex(v, n, s, weight),
         }
     };
-    let spokes = far_ends.iter().map(|&far_end| (spoke, far_end));
-    Blend {
-        terms: std::iter::once((own, vertex)).chain(spokes).collect(),
-        denominator,
+    around.enumerate().map(point).collect()
+}
+
+/// The point on each old edge, by edge number. Of the halfedges that carry an
+/// edge one is above its twin.
+fn edge_points(level: &Cage) -> Vec<[i32; 3]> {
+    let mut points = vec![[0; 3]; level.edge_count()];
+    for h in level.halfedges().filter(|&h| level.is_above_twin(h)) {
+        points[level.edge_of(h)] = edge_point(level, h);
+    }
+    points
+}
+
+fn edge_point(level: &Cage, h: usize) -> [i32; 3] {
+    let point = |vertex| Sum::of(level, vertex);
+    let ends = [level.vert_of(h), level.far_end(h)].map(point);
+    match level.twin_of(h) {
+        Some(twin) => inner_edge(ends, [h, twin].map(|h| point(level.opposite_corner(h)))),
+        None => border_edge(ends),
     }
 }
 
-/// The far ends of the two border edges of each border vertex.
-fn border_neighbours(level: &Cage) -> HashMap<usize, Vec<usize>> {
-    let mut neighbours: HashMap<usize, Vec<usize>> = HashMap::new();
+/// Rule E.1: (a+b)/2.
+fn border_edge([a, b]: [Sum; 2]) -> [i32; 3] {
+    (a + b).over(2)
+}
+
+/// Rule E.2: (3a+3b+c+d)/8.
+fn inner_edge([a, b]: [Sum; 2], [c, d]: [Sum; 2]) -> [i32; 3] {
+    (3 * a + 3 * b + c + d).over(8)
+}
+
+/// Rule V.2: (6v+a+b)/8, where `neighbours` is a+b.
+fn border_vertex(v: Sum, neighbours: Sum) -> [i32; 3] {
+    (6 * v + neighbours).over(8)
+}
+
+/// Rule V.3. Short: (5n·v+3s)/(8n). The paper's: ((2^24−n·w)·v + w·s)/2^24.
+fn inner_vertex(v: Sum, n: usize, s: Sum, weight: Weight) -> [i32; 3] {
+    match weight {
+        Weight::Short => {
+            let n = n as i64;
+            (5 * n * v + 3 * s).over(8 * n)
+        }
+        Weight::Paper => {
+            let part = paper_part(n).expect("a valence that passed 14");
+            let (n, w, whole) = (n as i64, i64::from(part), i64::from(WHOLE));
+            ((whole - n * w) * v + w * s).over(whole)
+        }
+    }
+}
+
+/// The sum over the far ends of the two border edges of each border vertex, by
+/// vertex number. None for an inner vertex.
+fn border_neighbours(level: &Cage) -> Vec<Option<Sum>> {
+    let mut neighbours = vec![None; level.vertex_count()];
     for h in level.borders() {
         let (from, to) = (level.vert_of(h), level.far_end(h));
-        neighbours.entry(from).or_default().push(to);
-        neighbours.entry(to).or_default().push(from);
+        *neighbours[from].get_or_insert_default() += Sum::of(level, to);
+        *neighbours[to].get_or_insert_default() += Sum::of(level, from);
     }
     neighbours
 }
 
-/// The far ends of the halfedges that leave each vertex: at an inner vertex,
-/// of all its spokes.
-fn spokes(level: &Cage) -> Vec<Vec<usize>> {
-    let mut far_ends = vec![Vec::new(); level.vertex_count()];
+/// How many halfedges leave each vertex, and the sum over their far ends: at an
+/// inner vertex, n and s over all its spokes.
+fn spokes(level: &Cage) -> Vec<(usize, Sum)> {
+    let mut spokes = vec![(0, Sum::default()); level.vertex_count()];
     for h in level.halfedges() {
-        far_ends[level.vert_of(h)].push(level.far_end(h));
+        let (n, s) = &mut spokes[level.vert_of(h)];
+        *n += 1;
+        *s += Sum::of(level, level.far_end(h));
     }
-    far_ends
+    spokes
 }
 
 #[cfg(test)]

@@ -37,7 +37,5 @@ impl LentTables<'_> {
 }
 
 fn lay_cells<T: Copy>(lent: &mut [T], before: usize, cells: &[T]) {
-    for (place, cell) in lent.iter_mut().skip(before).zip(cells) {
-        *place = *cell;
-    }
+    lent[before..before + cells.len()].copy_from_slice(cells);
 }
