@@ -6,6 +6,7 @@
 #include <cstring>
 
 #include "levels.h"
+#include "rounding.h"
 
 struct Three {
   uint32_t a, b, c;
@@ -76,10 +77,12 @@ struct Point {
   int32_t x, y, z;
 
   Point operator+(Point o) const { return {x + o.x, y + o.y, z + o.z}; }
-  Point operator+(int32_t k) const { return {x + k, y + k, z + k}; }
   Point operator*(int32_t k) const { return {x * k, y * k, z * k}; }
-  Point operator>>(int k) const { return {x >> k, y >> k, z >> k}; }
 };
+
+inline Point rounded_shift(Point p, int bits) {
+  return {rounded_shift(p.x, bits), rounded_shift(p.y, bits), rounded_shift(p.z, bits)};
+}
 
 // The index is widened first, so that the three cells are loaded and stored by one address.
 inline Point load(const int32_t* points, size_t v) {
@@ -95,13 +98,12 @@ inline void store(int32_t* points, size_t v, Point p) {
 inline void add(int32_t* sums, uint32_t v, Point p) { store(sums, v, load(sums, v) + p); }
 
 inline int32_t short_place(int64_t corners, int64_t vertex, int64_t sum) {
-  const int64_t top = 10 * corners * vertex + 6 * sum + 8 * corners, bottom = 16 * corners;
-  return int32_t(top < 0 ? -1 - (-1 - top) / bottom : top / bottom);
+  return rounded(5 * corners * vertex + 3 * sum, 8 * corners);
 }
 
 inline int32_t paper_place(int64_t corners, int64_t vertex, int64_t sum) {
   const int64_t w = kPaperTable[corners];
-  return int32_t(((kParts - corners * w) * vertex + w * sum + kParts / 2) >> 24);
+  return int32_t(rounded_shift((kParts - corners * w) * vertex + w * sum, 24));
 }
 
 // A border vertex may have one corner, or more than the table has. Its place here is not its own, and only has to be in range.
@@ -122,15 +124,15 @@ inline void settle(Weight weight, const std::vector<uint32_t>& corners, const in
                    int32_t* __restrict sums, size_t cells) {
   const size_t own = 3 * corners.size();
   for (size_t i = 0; i < own; ++i) sums[i] = place_of(weight, corners[i / 3], points[i], sums[i]);
-  for (size_t i = own; i < cells; ++i) sums[i] = (10 * points[i] + sums[i] + 8) >> 4;
+  for (size_t i = own; i < cells; ++i) sums[i] = rounded_shift(10 * points[i] + sums[i], 4);
 }
 
 // An edge's cells hold 3a+3b+c from its lower halfedge until the higher one brings d.
 inline void add_edge(int32_t* edge_points, uint32_t e, bool higher, Point a, Point b, Point c) {
   if (higher)
-    store(edge_points, e, (load(edge_points, e) + c) >> 3);
+    store(edge_points, e, rounded_shift(load(edge_points, e) + c, 3));
   else
-    store(edge_points, e, (a + b) * 3 + c + 4);
+    store(edge_points, e, (a + b) * 3 + c);
 }
 
 // All levels, with put_points(level, vertex points, edge points) for the points of the next one. It finds the first made 0.

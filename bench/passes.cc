@@ -20,7 +20,7 @@ void add_spokes(const Level& old, int32_t* __restrict sums) {
 constexpr int32_t kMostCoordinate = 1 << 20, kMark = 1 << 30;
 
 inline int32_t met(int32_t now, int32_t v, int32_t a) {
-  return now <= kMostCoordinate ? 6 * v + a + kMark : (now - kMark + a + 4) >> 3;
+  return now <= kMostCoordinate ? 6 * v + a + kMark : rounded_shift(now - kMark + a, 3);
 }
 
 // Border vertex v, at p, meets its neighbour at q.
@@ -37,7 +37,7 @@ struct Fresh {
 // Halfedge h from vertex a to vertex b, at p and q, with the opposite corner at r.
 inline void put_edge(const Level& old, Fresh fresh, uint32_t h, uint32_t a, uint32_t b, Point p, Point q, Point r) {
   if (old.twin[h] != kNoTwin) return add_edge(fresh.edges, old.edge[h], old.twin[h] < h, p, q, r);
-  store(fresh.edges, old.edge[h], (p + q + 1) >> 1);
+  store(fresh.edges, old.edge[h], rounded_shift(p + q, 1));
   meet(fresh.vertices, a, p, q);
   meet(fresh.vertices, b, q, p);
 }

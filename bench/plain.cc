@@ -1,6 +1,7 @@
 // A plain reading of the paper: a loop over halfedges by the four rows, and each vertex's point by walking its fan.
 #include "engines.h"
 #include "levels.h"
+#include "rounding.h"
 
 namespace {
 
@@ -22,12 +23,6 @@ void next_tables(const Level& old, const Room& fresh) {
     fresh.vert[3 * h + 2] = vertices + ep;
     fresh.vert[middle] = vertices + ep;
   }
-}
-
-// To the nearest whole number, halves going up.
-int32_t rounded(int64_t numerator, int64_t denominator) {
-  const int64_t top = 2 * numerator + denominator, bottom = 2 * denominator;
-  return int32_t(top < 0 ? -1 - (-1 - top) / bottom : top / bottom);
 }
 
 // E.1 and E.2, at the lower halfedge of each edge.

@@ -27,7 +27,7 @@ void scatter_fours(const Level& old, int32_t* __restrict sums, int32_t* __restri
   const auto corner = [=](uint32_t h, Point v, Point l, Point m, Point n) {
     add(sums, vert[h], m);
     add(sums, vert[h + 2], v + m + n);
-    store(edge_points, edge[h + 1], ((l + m) * 3 + v + n + 4) >> 3);
+    store(edge_points, edge[h + 1], rounded_shift((l + m) * 3 + v + n, 3));
     add_edge(edge_points, edge[h], twin[h] < h, v, m, l);
     add_edge(edge_points, edge[h + 2], twin[h + 2] < h + 2, l, v, m);
   };
@@ -61,12 +61,12 @@ struct Known {
   void put_border(const Level& old, int32_t* vertex_points, int32_t* edge_points) const {
     for (uint32_t h : border) {
       const Point a = load(old.points, old.vert[h]), b = load(old.points, old.vert[next(h)]);
-      store(edge_points, old.edge[h], (a + b + 1) >> 1);
-      store(vertex_points, old.vert[h], a * 6 + b + 4);
+      store(edge_points, old.edge[h], rounded_shift(a + b, 1));
+      store(vertex_points, old.vert[h], a * 6 + b);
     }
     for (uint32_t h : border) {
       const uint32_t v = old.vert[next(h)];
-      store(vertex_points, v, (load(vertex_points, v) + load(old.points, old.vert[h])) >> 3);
+      store(vertex_points, v, rounded_shift(load(vertex_points, v) + load(old.points, old.vert[h]), 3));
     }
   }
 };

@@ -111,7 +111,9 @@ void ryebadger_counts(uint64_t halfedges, uint64_t edges, uint64_t vertices, uin
 /* Refining with a weight of enum ryebadger_weight: refusals 1 to 9 and, with the paper's weight, at any depth, 14 after 7 and
  * before 8. Done, levels 0 to the depth stand end to end from the front of the four lent tables, level 0 being the cage, and
  * the values are the count question's for this cage and depth. Needed is the room in halfedges in each of the first three
- * lent tables and three times the room in vertices in the points; cells past that are untouched. */
+ * lent tables and three times the room in vertices in the points; cells past that are untouched. A coordinate is rounded once
+ * per level, halves away from zero. So left and right come out as mirrors: negating every x of the cage's points, or every y
+ * or z, negates exactly those numbers at every level and changes nothing else. */
 void ryebadger_refine(const uint32_t *twin, size_t twin_length, const uint32_t *vert, size_t vert_length,
                       const uint32_t *edge, size_t edge_length, const int32_t *points, size_t points_length,
                       uint64_t depth, uint32_t weight, uint32_t *lent_twin, size_t lent_twin_length,

@@ -1,4 +1,5 @@
-//! Points that the documents give themselves: P4, P6 and P10, through refining.
+//! Points that the documents give themselves, P4, P6 and P10, and halves by each
+//! rule, through refining.
 
 use compare::{assert_alike, room_at, Question, WEIGHTS};
 use second::cage::{Cage, MARKER};
@@ -54,6 +55,27 @@ fn p6_the_pillow() {
 fn p10_the_three_roundings() {
     for weight in WEIGHTS {
         let points = level_1("P10", &triangle([2, -2, -2, 0, 0, -1, 0, 0, 0]), weight);
-        assert_eq!(points[..3], [2, -1, -2]);
+        assert_eq!(points[..3], [2, -2, -2]);
     }
+}
+
+/// A half above zero in x and its mirror in y, which both go away from zero.
+#[test]
+fn halves_by_each_rule() {
+    let placed = |cage: Cage, x: [i32; 3]| Cage {
+        points: x.iter().flat_map(|&x| [x, -x, 0]).collect(),
+        ..cage
+    };
+    for weight in WEIGHTS {
+        let points = level_1("border", &placed(triangle([0; 9]), [1, 0, 6]), weight);
+        assert_eq!(points[..3], [2, -2, 0], "vertex 0, 12/8");
+        assert_eq!(points[9..12], [1, -1, 0], "edge 0, 1/2");
+    }
+    let points = level_1("inside", &placed(pillow(), [2, 6, -10]), Weight::Short);
+    assert_eq!(points[..3], [1, -1, 0], "vertex 0, 8/16");
+    assert_eq!(points[9..12], [1, -1, 0], "edge 0, 4/8");
+    // The paper's weight at two corners is 39/128.
+    let points = level_1("inside", &placed(pillow(), [33, 5, -3]), Weight::Paper);
+    assert_eq!(points[..3], [14, -14, 0], "vertex 0, 1728/128");
+    assert_eq!(points[9..12], [14, -14, 0], "edge 0, 108/8");
 }

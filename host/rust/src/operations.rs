@@ -97,6 +97,10 @@ pub fn counts(
 /// lent tables, level 0 being the cage. Cells past the room are untouched. Gives
 /// refusals 1 to 9 and, with the paper's weight, 14 after 7 and before 8.
 /// [`Refined`](crate::Refined) has the room found and allocated.
+///
+/// A coordinate is rounded once per level, halves away from zero. So negating
+/// every x of the cage's points, or every y or z, negates exactly those numbers
+/// at every level and changes nothing else.
 pub fn refine(
     cage: Cage<'_>,
     depth: u64,

@@ -92,7 +92,8 @@ impl Cage<'_> {
     }
 }
 
-/// All levels of a cage, from 0 to a depth.
+/// All levels of a cage, from 0 to a depth. Those of its mirror are their
+/// mirrors, as is said at [`refine`].
 ///
 /// ```
 /// use ryebadger::{Cage, Refined, Weight, MARKER};
@@ -109,6 +110,14 @@ impl Cage<'_> {
 /// assert_eq!(level.vert, [0, 3, 5, 1, 4, 3, 2, 5, 4, 5, 3, 4]);
 /// assert_eq!(level.points[..3], [100, 100, 0]);
 /// assert_eq!(refined.levels().count(), 7);
+///
+/// let mirror = Cage { points: &[0, 0, 0, -800, 0, 0, 0, 800, 0], ..triangle };
+/// let mirror = Refined::new(mirror, 6, Weight::Short)?;
+/// for (level, mirrored) in refined.levels().zip(mirror.levels()) {
+///     for (point, mirrored) in level.points.chunks(3).zip(mirrored.points.chunks(3)) {
+///         assert_eq!(mirrored, [-point[0], point[1], point[2]]);
+///     }
+/// }
 /// # Ok::<(), ryebadger::Refusal>(())
 /// ```
 #[derive(Clone, Debug, PartialEq, Eq)]
