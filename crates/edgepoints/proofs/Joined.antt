@@ -4,7 +4,7 @@ use Prim.Native.Nat.{ℕ, zero, suc, _+_, _*_, _≤_, _<_}
 use mathlib.Core.Path.{_≡_, refl, ap, ap₂, _∙_}
 use mathlib.Core.Logic.{_≢_}
 use mathlib.Core.Bool.{Bool, true, false, cond}
-use mathlib.Core.List.{List}
+use mathlib.Core.List.{List, []}
 use native.Mathlib.Decide.{ℕ-discrete}
 use native.Mathlib.Nat.{add-zero}
 use native.Mathlib.Omega.{arith}
@@ -20,7 +20,7 @@ use Rattle.halfedges.specs.Cage.{NEXT, marker, cell}
 use Rattle.halfedges.proofs.Triangle.{next-below}
 use Rattle.edgepoints.specs.declared.edges.Corner.{Corner}
 use Rattle.edgepoints.specs.declared.edges.Halfedge.{Halfedge}
-use Rattle.tables.specs.Tables.{leaves}
+use Rattle.tables.specs.Tables.{tables, leaves}
 use Rattle.points.specs.NextPoints.{coordinate, far}
 use Rattle.points.specs.Operations.{most-coordinate, InRange}
 use Rattle.points.specs.Internal.Relied.{Bordered, borderLeaves, borderEnds, Carried}
@@ -127,7 +127,7 @@ module _ (twin vert edge : List ℕ) (n : ℕ) (points l : List ℤ) (edged : Ed
       had-few i b =
           omega (arith, bordered .one v lv, bordered .pair v lv, count-grows (borderLeaves twin vert v) i (length vert) b, count-grows (borderEnds twin vert v) i (length vert) b)
 
-      pub joined-is : (i : ℕ) → i ≤ length vert → value (after i) at ≡ stage (had i) (value l at) x (creaseSum twin vert points k v i)
+      pub joined-is : (i : ℕ) → i ≤ length vert → value (after i) at ≡ stage (had i) (value l at) x (creaseSum (tables twin vert edge) [] points k v i)
       unfolding steps
       joined-is zero b = refl
       joined-is (suc i) b = by (ℕ-discrete (cell twin i) marker) (joined-is i (omega arith))
@@ -151,18 +151,18 @@ module _ (twin vert edge : List ℕ) (n : ℕ) (points l : List ℤ) (edged : Ed
           xa = coordinate points k (cell vert i)
 
           L : ℕ → ℤ
-          L = leavingSum twin vert points k v
+          L = leavingSum (tables twin vert edge) [] points k v
 
           E : ℕ → ℤ
           E = endingSum twin vert points k v
 
           s : ℤ
-          s = creaseSum twin vert points k v i
+          s = creaseSum (tables twin vert edge) [] points k v i
 
-          s-small : natAbs (creaseSum twin vert points k v i) ≤ most-coordinate * had i
-          s-small = omega (arith, creases-at-most twin vert v points k most-coordinate small i)
+          s-small : natAbs (creaseSum (tables twin vert edge) [] points k v i) ≤ most-coordinate * had i
+          s-small = omega (arith, creases-at-most (tables twin vert edge) [] v points k most-coordinate small i)
 
-          by : Dec (cell twin i ≡ marker) → value (after i) at ≡ stage (had i) (value l at) x (creaseSum twin vert points k v i) → value (after (suc i)) at ≡ stage (had (suc i)) (value l at) x (creaseSum twin vert points k v (suc i))
+          by : Dec (cell twin i ≡ marker) → value (after i) at ≡ stage (had i) (value l at) x (creaseSum (tables twin vert edge) [] points k v i) → value (after (suc i)) at ≡ stage (had (suc i)) (value l at) x (creaseSum (tables twin vert edge) [] points k v (suc i))
           by (no t) ih =
               inner-keeps i b (after i) long t ∙ ih
               ∙ rw (scan-more (λ h. coordinate points k (far vert h)) (borderLeaves twin vert v) i, scan-more (λ h. coordinate points k (cell vert h)) (borderEnds twin vert v) i, ne-eqb _ marker t, add-zero, add-zero, +ℤ-idr, +ℤ-idr)
@@ -181,7 +181,7 @@ module _ (twin vert edge : List ℕ) (n : ℕ) (points l : List ℤ) (edged : Ed
               counts : had i + cond A 1 0 + cond F 1 0 ≡ had (suc i)
               counts = rw (eq-eqb _ marker t) (omega arith)
 
-              sums : s +ℤ cond A xb (pos 0) +ℤ cond F xa (pos 0) ≡ creaseSum twin vert points k v (suc i)
+              sums : s +ℤ cond A xb (pos 0) +ℤ cond F xa (pos 0) ≡ creaseSum (tables twin vert edge) [] points k v (suc i)
               sums =
                   rw (scan-more (λ h. coordinate points k (far vert h)) (borderLeaves twin vert v) i, scan-more (λ h. coordinate points k (cell vert h)) (borderEnds twin vert v) i, eq-eqb _ marker t)
                   (+ℤ-assoc s (cond A xb (pos 0)) (cond F xa (pos 0)) ∙ add-swap (L i) (E i) (cond A xb (pos 0)) (cond F xa (pos 0)))

@@ -4,7 +4,7 @@ use Prim.Native.Nat.{ℕ, zero, suc, _+_, _*_, _≤_, _<_}
 use mathlib.Core.Path.{_≡_, sym, ap, _∙_, subst}
 use mathlib.Core.Logic.{_≢_, _⊎_, inl, inr}
 use mathlib.Core.Bool.{cond, true}
-use mathlib.Core.List.{List}
+use mathlib.Core.List.{List, []}
 use native.Mathlib.Decide.{ℕ-discrete, decLt}
 use native.Mathlib.Nat.{not-suc-le-zero}
 use native.Mathlib.Omega.{arith}
@@ -16,6 +16,7 @@ use Rattle.laws.specs.Internal.Steps.{steps}
 use Rattle.halfedges.specs.Cage.{NEXT, PREV, marker, cell, border}
 use Rattle.halfedges.proofs.Triangle.{next-below, prev-below}
 use Rattle.edgepoints.specs.declared.edges.Halfedge.{Halfedge}
+use Rattle.tables.specs.Tables.{tables}
 use Rattle.points.specs.PointRules.{E2}
 use Rattle.points.specs.NextPoints.{coordinate, pointOf, far, edgePoint, carrier}
 use Rattle.points.specs.Operations.{most-coordinate, InRange}
@@ -61,7 +62,7 @@ module _ (twin vert edge : List ℕ) (n : ℕ) (points l : List ℤ) (edged : Ed
   begins h k = started (coordinate points k (cell vert h)) (coordinate points k (far vert h)) (coordinate points k (cell vert (PREV h)))
 
   -- E.2 as the two halfedges make it
-  inner-is : (h k : ℕ) → cell twin h ≢ marker → finished (begins h k) (coordinate points k (cell vert (PREV (cell twin h)))) ≡ edgePoint twin vert points h k
+  inner-is : (h k : ℕ) → cell twin h ≢ marker → finished (begins h k) (coordinate points k (cell vert (PREV (cell twin h)))) ≡ edgePoint (tables twin vert edge) [] points h k
   unfolding edgePoint E2
   inner-is h k t = rw (ne-eqb _ marker t)
 
@@ -87,7 +88,7 @@ module _ (twin vert edge : List ℕ) (n : ℕ) (points l : List ℤ) (edged : Ed
         ∙ subst (λ c. value (put (6 * n + 3 * cell edge h) (own n x m) m) (6 * n + 3 * c + k) ≡ own n x m k) e
         (put-hit (6 * n + 3 * cell edge h) (own n x m) m (rw long (edged .room h b)) k lk)
 
-    border-hit : cell edge h ≡ c → cell twin h ≡ marker → value (putEdge twin vert edge n l h m) at ≡ edgePoint twin vert points h k
+    border-hit : cell edge h ≡ c → cell twin h ≡ marker → value (putEdge twin vert edge n l h m) at ≡ edgePoint (tables twin vert edge) [] points h k
     unfolding edgePoint
     border-hit e t = hit e ∙ own-border n x m k t ∙ rw (from-is h k b lk, end-is h k b lk, eq-eqb _ marker t)
 
@@ -113,7 +114,7 @@ module _ (twin vert edge : List ℕ) (n : ℕ) (points l : List ℤ) (edged : Ed
 
     -- edge c's cells once i halfedges have had their turn, the lower one among them
     abbrev grown : ℕ → ℤ
-    grown i = cond (border twin low) (edgePoint twin vert points low k) (cond (ltb high i) (edgePoint twin vert points low k) (begins low k))
+    grown i = cond (border twin low) (edgePoint (tables twin vert edge) [] points low k) (cond (ltb high i) (edgePoint (tables twin vert edge) [] points low k) (begins low k))
 
     pub written-is : (i : ℕ) → i ≤ length vert → carrier edge c < i → value (after i) (6 * n + 3 * c + k) ≡ grown i
     unfolding steps
@@ -125,7 +126,7 @@ module _ (twin vert edge : List ℕ) (n : ℕ) (points l : List ℤ) (edged : Ed
 
         first : low ≡ i → Dec (high ≡ marker) → value (after (suc i)) (6 * n + 3 * c + k) ≡ grown (suc i)
         first q (yes t) =
-            rw (eq-eqb high marker t) (subst (λ j. value (after (suc i)) (6 * n + 3 * c + k) ≡ edgePoint twin vert points j k) (sym q) (border-hit c k lk i b (after i) long (sym (ap (cell edge) q) ∙ low-carries) (sym (ap (cell twin) q) ∙ t)))
+            rw (eq-eqb high marker t) (subst (λ j. value (after (suc i)) (6 * n + 3 * c + k) ≡ edgePoint (tables twin vert edge) [] points j k) (sym q) (border-hit c k lk i b (after i) long (sym (ap (cell edge) q) ∙ low-carries) (sym (ap (cell twin) q) ∙ t)))
         first q (no t) =
             let up : low < high = ltb-true low high (rw (ne-eqb high marker t) at (carrier-first twin edge e carried c lc)) in
             rw (ne-eqb high marker t, le-ltb high (suc i) (omega (arith, q, up)))
@@ -169,10 +170,10 @@ module _ (twin vert edge : List ℕ) (n : ℕ) (points l : List ℤ) (edged : Ed
         by (no d) (yes q) (no t) ih = second (own d q) (ih d) t
         by (no d) (no q) t ih = other q (ih d) t
 
-    pub edge-written : value (after (length vert)) (6 * n + 3 * c + k) ≡ edgePoint twin vert points (carrier edge c) k
+    pub edge-written : value (after (length vert)) (6 * n + 3 * c + k) ≡ edgePoint (tables twin vert edge) [] points (carrier edge c) k
     edge-written = written-is (length vert) (omega arith) low-below ∙ by (ℕ-discrete high marker)
       where
-        by : Dec (high ≡ marker) → grown (length vert) ≡ edgePoint twin vert points (carrier edge c) k
+        by : Dec (high ≡ marker) → grown (length vert) ≡ edgePoint (tables twin vert edge) [] points (carrier edge c) k
         by (yes t) = rw (eq-eqb high marker t)
         by (no t) = rw (ne-eqb high marker t, lt-ltb high (length vert) (omega (arith, edged .twin-long, carried .twin-below low (in-twin low-below) t)))
 

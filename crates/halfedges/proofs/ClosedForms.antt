@@ -5,7 +5,7 @@ use mathlib.Core.Path.{_≡_, refl, sym, ap, _∙_, subst}
 use native.Mathlib.Nat.{pow-suc, mul-assoc, mul-comm, add-mul, mul-div-cancel-left, mul-mod-right}
 use native.Mathlib.Omega.{arith}
 use Rattle.halfedges.specs.declared.table.HalfedgeTable.{HalfedgeTable}
-use Rattle.halfedges.specs.Counts.{countsAt, Hs, Es, Vs, roomH, roomV}
+use Rattle.halfedges.specs.Counts.{countsAt, Hs, Es, Vs, roomH, roomV, roomE}
 
 -- equations 4 to 6, with p for 2^k
 abbrev pub levelBy : HalfedgeTable → ℕ → HalfedgeTable
@@ -16,23 +16,28 @@ levelBy t p =
       vertices = t .vertices + (p - 1) * t .edges + (p * p + 2 - 3 * p) / 2 * t .halfedges / 3;
     }
 
--- the sum of H, and that of V, from level 0
+-- the sums of H, of V and of E, from level 0
 abbrev pub roomHBy : HalfedgeTable → ℕ → ℕ
 roomHBy t p = (4 * (p * p) - 1) * t .halfedges / 3
 
 abbrev pub roomVBy : HalfedgeTable → ℕ → ℕ → ℕ
 roomVBy t k p = (k + 1) * t .vertices + (2 * p - (k + 2)) * t .edges + (2 * (p * p) + 3 * k + 7 - 9 * p) * t .halfedges / 9
 
--- how often H is in E and in V of level k, and in the sums of H and of V up to it: whole numbers
+abbrev pub roomEBy : HalfedgeTable → ℕ → ℕ
+roomEBy t p = (2 * p - 1) * t .edges + (2 * (p * p) + 1 - 3 * p) / 3 * t .halfedges
+
+-- how often H is in E and in V of level k, and in the sums of H, of V and of E up to it: whole numbers
 pub record Factors (k p : ℕ) : Type 0 where
   pub inE : ℕ
   pub inV : ℕ
   pub inHs : ℕ
   pub inVs : ℕ
+  pub inEs : ℕ
   pub twice : 2 * inE + p ≡ p * p
   pub sixfold : 6 * inV + 3 * p ≡ p * p + 2
   pub threefold : 3 * inHs + 1 ≡ 4 * (p * p)
   pub ninefold : 9 * inVs + 9 * p ≡ 2 * (p * p) + 3 * k + 7
+  pub thirds : 3 * inEs + 3 * p ≡ 2 * (p * p) + 1
   pub positive : 1 ≤ p
   pub enough : k + 2 ≤ 2 * p
 
@@ -49,10 +54,12 @@ factors-first =
       inV = 0;
       inHs = 1;
       inVs = 0;
+      inEs = 0;
       twice = refl;
       sixfold = refl;
       threefold = refl;
       ninefold = refl;
+      thirds = refl;
       positive = omega arith;
       enough = omega arith;
     }
@@ -65,10 +72,12 @@ factors-next k p f =
       inV = f .inV + f .inE;
       inHs = f .inHs + 4 * (p * p);
       inVs = f .inVs + (f .inV + f .inE);
+      inEs = f .inEs + (2 * f .inE + p * p);
       twice = omega (arith, q, f .twice);
       sixfold = omega (arith, q, f .sixfold, f .twice);
       threefold = omega (arith, q, f .threefold);
       ninefold = omega (arith, q, f .ninefold, f .sixfold, f .twice);
+      thirds = omega (arith, q, f .thirds, f .twice);
       positive = omega (arith, f .positive);
       enough = omega (arith, f .positive, f .enough);
     }
@@ -85,6 +94,7 @@ record Counted (t : HalfedgeTable) (k p : ℕ) : Type 0 where
   vertices : Vs t k + t .edges ≡ t .vertices + p * t .edges + by .inV * t .halfedges
   halfedge-room : roomH t k ≡ by .inHs * t .halfedges
   vertex-room : roomV t k + (k + 2) * t .edges ≡ (k + 1) * t .vertices + 2 * p * t .edges + by .inVs * t .halfedges
+  edge-room : roomE t k + t .edges ≡ 2 * p * t .edges + by .inEs * t .halfedges
 
 counted-next : (t : HalfedgeTable) (k p : ℕ) → Counted t k p → Counted t (suc k) (2 * p)
 unfolding countsAt
@@ -101,6 +111,7 @@ counted-next t k p c =
       halfedge-room = omega (arith, add-mul (f .inHs) (4 * (p * p)) h, mul-assoc 4 (p * p) h, c .halfedge-room, c .halfedges);
       vertex-room =
           omega (arith, mul-assoc 2 p e, mul-assoc 2 (2 * p) e, add-mul (f .inVs) (f .inV + f .inE) h, add-mul (f .inV) (f .inE) h, add-mul 1 (k + 2) e, add-mul 1 (k + 1) (t .vertices), c .vertex-room, c .vertices, c .edges);
+      edge-room = omega (arith, mul-assoc 2 p e, mul-assoc 2 (2 * p) e, add-mul (f .inEs) (2 * f .inE + p * p) h, add-mul (2 * f .inE) (p * p) h, mul-assoc 2 (f .inE) h, c .edge-room, c .edges, c .halfedges);
     }
 
 counted-at : (t : HalfedgeTable) (k : ℕ) → Counted t k (2 ^ k)
@@ -113,6 +124,7 @@ counted-at t zero =
       vertices = omega arith;
       halfedge-room = omega arith;
       vertex-room = omega arith;
+      edge-room = omega arith;
     }
 counted-at t (suc k) = subst (Counted t (suc k)) (power-doubled k) (counted-next t k (2 ^ k) (counted-at t k))
 
@@ -123,12 +135,14 @@ pub record Exact (t : HalfedgeTable) (k p : ℕ) : Type 0 where
   pub vertices-third : (p * p + 2 - 3 * p) / 2 * t .halfedges % 3 ≡ 0
   pub halfedge-room-third : (4 * (p * p) - 1) * t .halfedges % 3 ≡ 0
   pub vertex-room-ninth : (2 * (p * p) + 3 * k + 7 - 9 * p) * t .halfedges % 9 ≡ 0
+  pub edge-room-third : (2 * (p * p) + 1 - 3 * p) % 3 ≡ 0
 
 -- the level and the room
 pub record Closed (t : HalfedgeTable) (k p : ℕ) : Type 0 where
   pub level : levelBy t p ≡ countsAt t k
   pub halfedge-room : roomHBy t p ≡ roomH t k
   pub vertex-room : roomVBy t k p ≡ roomV t k
+  pub edge-room : roomEBy t p ≡ roomE t k
 
 -- a part of a multiple leaves nothing over, and is what was multiplied
 nothing-over : (d n m : ℕ) → d * n * m % d ≡ 0
@@ -158,6 +172,9 @@ module _ (k p : ℕ) (f : Factors k p) where
   vertex-room-factor : 2 * (p * p) + 3 * k + 7 - 9 * p ≡ 9 * f .inVs
   vertex-room-factor = omega (arith, f .ninefold)
 
+  edge-room-factor : 2 * (p * p) + 1 - 3 * p ≡ 3 * f .inEs
+  edge-room-factor = omega (arith, f .thirds)
+
   exact : (t : HalfedgeTable) → Exact t k p
   exact t =
       record {
@@ -166,6 +183,7 @@ module _ (k p : ℕ) (f : Factors k p) where
         vertices-third = rw vertices-half (nothing-over 3 (f .inV) (t .halfedges));
         halfedge-room-third = rw halfedge-room-factor (nothing-over 3 (f .inHs) (t .halfedges));
         vertex-room-ninth = rw vertex-room-factor (nothing-over 9 (f .inVs) (t .halfedges));
+        edge-room-third = rw edge-room-factor (mul-mod-right 3 (f .inEs));
       }
 
 module _ (t : HalfedgeTable) (k p : ℕ) (c : Counted t k p) where
@@ -185,12 +203,18 @@ module _ (t : HalfedgeTable) (k p : ℕ) (c : Counted t k p) where
       rw (vertex-room-factor k p (c .by), part-of 9 (c .by .inVs) (t .halfedges) (omega arith))
       (omega (arith, in-parts {n = 2 * p} (2 * p - (k + 2)) (k + 2) (t .edges) (omega (arith, c .by .enough)), c .vertex-room))
 
+  edge-room-closed : roomEBy t p ≡ roomE t k
+  edge-room-closed =
+      rw (edge-room-factor k p (c .by), mul-div-cancel-left (c .by .inEs) (let z : 0 < 3 = omega arith in z))
+      (omega (arith, in-parts {n = 2 * p} (2 * p - 1) 1 (t .edges) (omega (arith, c .by .positive)), c .edge-room))
+
   closed : Closed t k p
   closed =
       record {
         level = same-counts (countsAt t k) (sym (c .halfedges)) edges-closed vertices-closed;
         halfedge-room = halfedge-room-closed;
         vertex-room = vertex-room-closed;
+        edge-room = edge-room-closed;
       }
 
 pub exact-divisions : (t : HalfedgeTable) (k : ℕ) → Exact t k (2 ^ k)

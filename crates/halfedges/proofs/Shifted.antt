@@ -30,6 +30,7 @@ pub record Small (k p : ℕ) : Type 0 where
   pub below-half : 3 * p ≤ p * p + 2
   pub below-power : k + 2 ≤ 2 * p
   pub below-ninefold : 9 * p ≤ 2 * (p * p) + 3 * k + 7
+  pub below-thirds : 3 * p ≤ 2 * (p * p) + 1
 
 pub shifted-small : (k : ℕ) → k ≤ most-depth → Small k (shifted k)
 shifted-small k d = rw (shifted-whole k d) (by (2 ^ k) (factors k) (pow-le-pow-right (let z : 0 < 2 = omega arith in z) d))
@@ -44,6 +45,7 @@ shifted-small k d = rw (shifted-whole k d) (by (2 ^ k) (factors k) (pow-le-pow-r
           below-half = omega (arith, f .sixfold);
           below-power = f .enough;
           below-ninefold = omega (arith, f .ninefold);
+          below-thirds = omega (arith, f .thirds);
         }
 
 -- a factor of the closed forms times a count of the cage, a part of that, and two or three of these together stay far below 2^64

@@ -29,12 +29,15 @@ Es t k = countsAt t k .edges
 abbrev pub Vs : HalfedgeTable → ℕ → ℕ
 Vs t k = countsAt t k .vertices
 
--- "the room: the sum of H and the sum of V over levels 0 to the depth"
+-- "the room: the sum of H and the sum of V over levels 0 to the depth"; it "gains the sum of E over the levels"
 abbrev pub roomH : HalfedgeTable → ℕ → ℕ
 roomH t depth = sum (suc depth) (Hs t)
 
 abbrev pub roomV : HalfedgeTable → ℕ → ℕ
 roomV t depth = sum (suc depth) (Vs t)
+
+abbrev pub roomE : HalfedgeTable → ℕ → ℕ
+roomE t depth = sum (suc depth) (Es t)
 
 -- a number for each of the seven levels, "zero past the depth asked"
 unfoldable pub seven : ℕ → (ℕ → ℕ) → List ℕ
@@ -49,6 +52,7 @@ levels t depth =
       vertices = seven depth (Vs t);
       «halfedge_room» = roomH t depth;
       «vertex_room» = roomV t depth;
+      «edge_room» = roomE t depth;
     }
 
 abbrev pub noLevels : Levels
@@ -59,6 +63,7 @@ noLevels =
       vertices = tabulate 7 (λ _. 0);
       «halfedge_room» = 0;
       «vertex_room» = 0;
+      «edge_room» = 0;
     }
 
 -- 1 "count question: H 0 or no multiple of 3, V is 0, E > H or 2E < H"

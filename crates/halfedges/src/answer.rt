@@ -19,6 +19,7 @@ pub enum Answer {
     Extra(usize),
     Doubled(usize),
     Valence(usize),
+    Crease(usize),
 }
 
 impl Answer {
@@ -41,6 +42,7 @@ impl Answer {
             Answer::Extra(_) => 12,
             Answer::Doubled(_) => 13,
             Answer::Valence(_) => 14,
+            Answer::Crease(_) => 15,
         }
     }
 
@@ -63,6 +65,7 @@ impl Answer {
             Answer::Extra(offset) => offset,
             Answer::Doubled(halfedge) => halfedge,
             Answer::Valence(vertex) => vertex,
+            Answer::Crease(edge) => edge,
         }
     }
 }

@@ -4,7 +4,7 @@ ghost use Prim.Native.Nat.{_≤_, _<_, _^_};
 ghost use Rattle.halfedges.specs.Cage.{NEXT, PREV, most-halfedges, most-depth};
 ghost use Rattle.halfedges.specs.Refusals.{told};
 ghost use Rattle.halfedges.specs.Internal.Counts.{AtMost, countsWithin, refusedCount};
-ghost use Rattle.halfedges.specs.Counts.{finer as Counts·finer, countsAt, levels as Counts·levels, roomH, roomV, noLevels, countShape, aboveLimit, countQuestion, counted};
+ghost use Rattle.halfedges.specs.Counts.{finer as Counts·finer, countsAt, levels as Counts·levels, roomH, roomV, roomE, noLevels, countShape, aboveLimit, countQuestion, counted};
 use crate::answer::Answer;
 
 // The counts of one level's halfedge table: H, E and V.
@@ -104,6 +104,7 @@ impl HalfedgeTable {
             ],
             halfedge_room: self.halfedge_room(depth),
             vertex_room: self.vertex_room(depth),
+            edge_room: self.edge_room(depth),
         }
     }
 
@@ -164,6 +165,18 @@ impl HalfedgeTable {
             + (2 * square + 3 * depth + 7 - 9 * power) * halfedges / 9
     }
 
+    // The sum of E over levels 0 to depth.
+    fn edge_room(self, depth: usize) -> usize
+        requires { ⌜ (AtMost most-halfedges self) × (depth ≤ most-depth) ⌝ }
+        ensures { λ r. ⌜ r ≡ roomE self depth ⌝ }
+    {
+        let halfedges = self.halfedges;
+        let edges = self.edges;
+        let power = 1 << depth;
+        let square = power * power;
+        (2 * power - 1) * edges + (2 * square + 1 - 3 * power) / 3 * halfedges
+    }
+
     // The count question, of any numbers.
     pub fn count(self, depth: usize) -> Counted
         ensures { λ r. ⌜ counted r ≡ countQuestion self depth ⌝ }
@@ -215,13 +228,14 @@ impl HalfedgeTable {
     }
 }
 
-// H, E and V of the seven levels, and the room: the sums of H and of V.
+// H, E and V of the seven levels, and the room: the sums of H, of V and of E.
 pub struct Levels {
     pub halfedges: [usize; 7],
     pub edges: [usize; 7],
     pub vertices: [usize; 7],
     pub halfedge_room: usize,
     pub vertex_room: usize,
+    pub edge_room: usize,
 }
 
 impl Levels {
@@ -234,6 +248,7 @@ impl Levels {
             vertices: [0; 7],
             halfedge_room: 0,
             vertex_room: 0,
+            edge_room: 0,
         }
     }
 }

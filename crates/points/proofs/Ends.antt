@@ -1,6 +1,6 @@
 -- Sums over a vertex's spokes and creases, halfedge by halfedge. Assumes nothing.
 --     spokeSum, spokes-are, spokes-at-most       the spokes' far ends: their sum, and how large it is
---     creaseSum, creases-are, creases-at-most    the same of the ends of border edges
+--     creaseSum, creases-are, creases-at-most    the same of the ends of creases
 --     corners-counted, creases-counted           how many there are
 --     tally-lists                                the corners as a tally has them
 --     far-below                                  a halfedge ends at a vertex
@@ -16,11 +16,11 @@ use Rattle.laws.proofs.Integers.{natAbs-add}
 use Rattle.laws.proofs.Select.{length-select}
 use Rattle.laws.proofs.Tabulate.{length-tabulate, getD-tabulate}
 use Rattle.halfedges.specs.Cage.{NEXT, cell}
-use Rattle.tables.specs.Tables.{leaves}
+use Rattle.tables.specs.Tables.{Tables, leaves}
 use Rattle.tables.specs.Internal.Tally.{Tallied}
 use Rattle.points.specs.NextPoints.{coordinate, corners, far, spokeEnds, creaseEnds}
 use Rattle.laws.specs.Totals.{total}
-use Rattle.points.specs.Internal.Relied.{Cornered, borderLeaves, borderEnds}
+use Rattle.points.specs.Internal.Relied.{Cornered, borderEnds, creaseLeaves}
 use Rattle.halfedges.proofs.Triangle.{next-below}
 use Rattle.laws.proofs.Totals.{total-append, scan, scan-at-most}
 
@@ -28,15 +28,15 @@ use Rattle.laws.proofs.Totals.{total-append, scan, scan-at-most}
 abbrev pub spokeSum : List ℕ → List ℤ → ℕ → ℕ → ℕ → ℤ
 spokeSum vert points k v = scan (λ h. coordinate points k (far vert h)) (leaves vert v)
 
--- coordinate k, summed over the far ends of v's border edges among the halfedges below n: of those that leave v, and of those that end there
-abbrev pub leavingSum : List ℕ → List ℕ → List ℤ → ℕ → ℕ → ℕ → ℤ
-leavingSum twin vert points k v = scan (λ h. coordinate points k (far vert h)) (borderLeaves twin vert v)
+-- coordinate k, summed over the far ends of v's creases among the halfedges below n: of those that leave v, and of border edges that end there
+abbrev pub leavingSum : Tables → List ℕ → List ℤ → ℕ → ℕ → ℕ → ℤ
+leavingSum c creases points k v = scan (λ h. coordinate points k (far (c .vert) h)) (creaseLeaves c creases v)
 
 abbrev pub endingSum : List ℕ → List ℕ → List ℤ → ℕ → ℕ → ℕ → ℤ
 endingSum twin vert points k v = scan (λ h. coordinate points k (cell vert h)) (borderEnds twin vert v)
 
-abbrev pub creaseSum : List ℕ → List ℕ → List ℤ → ℕ → ℕ → ℕ → ℤ
-creaseSum twin vert points k v n = leavingSum twin vert points k v n +ℤ endingSum twin vert points k v n
+abbrev pub creaseSum : Tables → List ℕ → List ℤ → ℕ → ℕ → ℕ → ℤ
+creaseSum c creases points k v n = leavingSum c creases points k v n +ℤ endingSum (c .twin) (c .vert) points k v n
 
 module _ (vert : List ℕ) (v : ℕ) where
   pub corners-counted : length (corners vert v) ≡ count (length vert) (leaves vert v)
@@ -51,34 +51,34 @@ module _ (vert : List ℕ) (v : ℕ) where
     pub spokes-at-most : (m : ℕ) → ((u : ℕ) → natAbs (coordinate points k u) ≤ m) → (n : ℕ) → natAbs (spokeSum vert points k v n) ≤ m * count n (leaves vert v)
     spokes-at-most m small = scan-at-most (λ h. coordinate points k (far vert h)) (leaves vert v) m (λ h. small (far vert h))
 
-module _ (twin vert : List ℕ) (v : ℕ) where
-  pub creases-counted : length (creaseEnds twin vert v) ≡ count (length vert) (borderLeaves twin vert v) + count (length vert) (borderEnds twin vert v)
+module _ (c : Tables) (creases : List ℕ) (v : ℕ) where
+  abbrev leaving : List ℕ
+  leaving = select (length (c .vert)) (creaseLeaves c creases v)
+
+  abbrev ending : List ℕ
+  ending = select (length (c .vert)) (borderEnds (c .twin) (c .vert) v)
+
+  pub creases-counted : length (creaseEnds c creases v) ≡ count (length (c .vert)) (creaseLeaves c creases v) + count (length (c .vert)) (borderEnds (c .twin) (c .vert) v)
   unfolding creaseEnds
   creases-counted =
-      simp (length-append, length-map, length-select (borderLeaves twin vert v) (length vert), length-select (borderEnds twin vert v) (length vert))
+      simp (length-append, length-map, length-select (creaseLeaves c creases v) (length (c .vert)), length-select (borderEnds (c .twin) (c .vert) v) (length (c .vert)))
 
   module _ (points : List ℤ) (k : ℕ) where
-    pub creases-are : total (map (coordinate points k) (creaseEnds twin vert v)) ≡ creaseSum twin vert points k v (length vert)
+    pub creases-are : total (map (coordinate points k) (creaseEnds c creases v)) ≡ creaseSum c creases points k v (length (c .vert))
     unfolding creaseEnds
     creases-are =
-        ap total (map-append (coordinate points k) (map (far vert) leaving) (map (cell vert) ending))
-        ∙ total-append (map (coordinate points k) (map (far vert) leaving)) (map (coordinate points k) (map (cell vert) ending))
-        ∙ ap (λ xs. total xs +ℤ total (map (coordinate points k) (map (cell vert) ending))) (map-map (coordinate points k) (far vert) leaving)
-        ∙ ap (λ xs. leavingSum twin vert points k v (length vert) +ℤ total xs) (map-map (coordinate points k) (cell vert) ending)
-      where
-        leaving : List ℕ
-        leaving = select (length vert) (borderLeaves twin vert v)
+        ap total (map-append (coordinate points k) (map (far (c .vert)) leaving) (map (cell (c .vert)) ending))
+        ∙ total-append (map (coordinate points k) (map (far (c .vert)) leaving)) (map (coordinate points k) (map (cell (c .vert)) ending))
+        ∙ ap (λ xs. total xs +ℤ total (map (coordinate points k) (map (cell (c .vert)) ending))) (map-map (coordinate points k) (far (c .vert)) leaving)
+        ∙ ap (λ xs. leavingSum c creases points k v (length (c .vert)) +ℤ total xs) (map-map (coordinate points k) (cell (c .vert)) ending)
 
-        ending : List ℕ
-        ending = select (length vert) (borderEnds twin vert v)
-
-    pub creases-at-most : (m : ℕ) → ((u : ℕ) → natAbs (coordinate points k u) ≤ m) → (n : ℕ) → natAbs (creaseSum twin vert points k v n) ≤ m * count n (borderLeaves twin vert v) + m * count n (borderEnds twin vert v)
+    pub creases-at-most : (m : ℕ) → ((u : ℕ) → natAbs (coordinate points k u) ≤ m) → (n : ℕ) → natAbs (creaseSum c creases points k v n) ≤ m * count n (creaseLeaves c creases v) + m * count n (borderEnds (c .twin) (c .vert) v)
     creases-at-most m small n =
         omega (
           arith,
-          scan-at-most (λ h. coordinate points k (far vert h)) (borderLeaves twin vert v) m (λ h. small (far vert h)) n,
-          scan-at-most (λ h. coordinate points k (cell vert h)) (borderEnds twin vert v) m (λ h. small (cell vert h)) n,
-          natAbs-add (leavingSum twin vert points k v n) (endingSum twin vert points k v n),
+          scan-at-most (λ h. coordinate points k (far (c .vert) h)) (creaseLeaves c creases v) m (λ h. small (far (c .vert) h)) n,
+          scan-at-most (λ h. coordinate points k (cell (c .vert) h)) (borderEnds (c .twin) (c .vert) v) m (λ h. small (cell (c .vert) h)) n,
+          natAbs-add (leavingSum c creases points k v n) (endingSum (c .twin) (c .vert) points k v n),
         )
 
 -- the corners of the first v vertices, listed by a tally

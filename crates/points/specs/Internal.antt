@@ -2,3 +2,4 @@
 pub mod Cells
 pub mod Parts
 pub mod Relied
+pub mod Creased

@@ -1,13 +1,11 @@
 // The check 1 to 7 of the tables, in number order: each rule runs on what the ones before it left.
 ghost use mathlib.Core.Path.{_≡_};
-ghost use Prim.Native.Nat.{_≤_};
-ghost use lib.ListN.{length, replicate};
-ghost use Rattle.halfedges.specs.Cage.{most-halfedges, most-vertices};
+ghost use lib.ListN.{replicate};
 ghost use Rattle.halfedges.specs.Refusals.{told, first, said};
 ghost use Rattle.tables.specs.Tables.{tables};
 ghost use Rattle.tables.specs.Rules.{misshapen as Rules·misshapen};
-ghost use Rattle.tables.specs.Ruled.{Shaped};
-ghost use Rattle.tables.specs.Check.{rules as Check·rules, tableChecks, returned, checkTables, checked};
+ghost use Rattle.tables.specs.Check.{pairing, placing, tableChecks, returned, checkTables, checked};
+ghost use Rattle.tables.specs.Internal.Relied.{ForPlaces};
 use crate::fans;
 use crate::rules;
 use halfedges::answer::Answer;
@@ -65,6 +63,27 @@ pub fn check_for_depth(
 ) -> Answer
     ensures { λ r. ⌜ told r ≡ first (tableChecks (tables (now (twin .entry)) (now (vert .entry)) (now (edge .entry))) vertices depth) ⌝ }
 {
+    let pairs = check_pairs(twin, vert, edge, vertices, depth);
+    if pairs.number() != 0 {
+        return pairs;
+    }
+    let places = check_places(twin, vert, edge, vertices);
+    if places.number() != 0 {
+        return places;
+    }
+    fans::check_fans(twin, vert, vertices)
+}
+
+// Checks 1 to 3 of any tables, where the depth's limit counts too.
+pub fn check_pairs(
+    twin: &[u32],
+    vert: &[u32],
+    edge: &[u32],
+    vertices: usize,
+    depth: usize,
+) -> Answer
+    ensures { λ r. ⌜ told r ≡ first (pairing (tables (now (twin .entry)) (now (vert .entry)) (now (edge .entry))) vertices depth) ⌝ }
+{
     if misshapen(twin, vert, edge) {
         return Answer::Shape;
     }
@@ -76,7 +95,7 @@ pub fn check_for_depth(
     if table.above_limit(depth) {
         return Answer::Limit;
     }
-    check_rules(twin, vert, edge, vertices)
+    rules::check_twins(twin)
 }
 
 fn misshapen(twin: &[u32], vert: &[u32], edge: &[u32]) -> bool
@@ -94,16 +113,11 @@ fn misshapen(twin: &[u32], vert: &[u32], edge: &[u32]) -> bool
     edge.len() != twin.len()
 }
 
-// Rules 3 to 7 of tables that keep 1 and 2.
-fn check_rules(twin: &[u32], vert: &[u32], edge: &[u32], vertices: usize) -> Answer
-    requires { ⌜ Shaped (tables (now twin) (now vert) (now edge)) ⌝ }
-    requires { ⌜ (length (now twin) ≤ most-halfedges) × (vertices ≤ most-vertices) ⌝ }
-    ensures { λ r. ⌜ told r ≡ first (Check·rules (tables (now (twin .entry)) (now (vert .entry)) (now (edge .entry))) vertices) ⌝ }
+// Rules 4 to 6 of tables that keep 1 to 3.
+pub fn check_places(twin: &[u32], vert: &[u32], edge: &[u32], vertices: usize) -> Answer
+    requires { ⌜ ForPlaces (tables (now twin) (now vert) (now edge)) vertices ⌝ }
+    ensures { λ r. ⌜ told r ≡ first (placing (tables (now (twin .entry)) (now (vert .entry)) (now (edge .entry))) vertices) ⌝ }
 {
-    let twins = rules::check_twins(twin);
-    if twins.number() != 0 {
-        return twins;
-    }
     let places = rules::check_vertices(twin, vert, vertices);
     if places.number() != 0 {
         return places;
@@ -112,9 +126,5 @@ fn check_rules(twin: &[u32], vert: &[u32], edge: &[u32], vertices: usize) -> Ans
     if uses.number() != 0 {
         return uses;
     }
-    let numbers = rules::check_edges(twin, edge);
-    if numbers.number() != 0 {
-        return numbers;
-    }
-    fans::check_fans(twin, vert, vertices)
+    rules::check_edges(twin, edge)
 }

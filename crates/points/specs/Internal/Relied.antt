@@ -11,7 +11,7 @@ use Rattle.halfedges.specs.declared.table.HalfedgeTable.{HalfedgeTable}
 use Rattle.laws.specs.Below.{count}
 use Rattle.halfedges.specs.Cage.{PREV, marker, cell, border}
 use Rattle.tables.specs.Tables.{Tables, leaves}
-use Rattle.points.specs.NextPoints.{corners, far}
+use Rattle.points.specs.NextPoints.{corners, far, crease}
 
 -- a vertex has at most as many corners as a cage of 3,072 halfedges has triangles, and keeps them
 abbrev pub most-corners : ℕ
@@ -31,6 +31,10 @@ borderLeaves twin vert u h = border twin h && leaves vert u h
 -- h is a border halfedge that ends at u
 abbrev pub borderEnds : List ℕ → List ℕ → ℕ → ℕ → Bool
 borderEnds twin vert u h = border twin h && eqb (far vert h) u
+
+-- h is a crease that leaves u
+abbrev pub creaseLeaves : Tables → List ℕ → ℕ → ℕ → Bool
+creaseLeaves c creases u h = crease c creases h && leaves (c .vert) u h
 
 -- "its two border edges": one leaves the vertex and one ends there, by rule 7, or none does
 pub record Bordered (twin vert : List ℕ) (v : ℕ) : Type 0 where

@@ -1,0 +1,2 @@
+pub mod Creases
+pub mod Check

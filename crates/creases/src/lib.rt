@@ -1,0 +1,1 @@
+// The crease table: its checks, and its levels.
