@@ -1,9 +1,10 @@
-// What the engines tuned by hand share: the tables, a table at a time and a triangle at a time, points of 32 bits, and what they
-// do for a level's points alike. They do the levels above the cage, where more is known of each row. The cage itself, a small
-// part of the work, is left to the plain engine.
+// What the engines tuned by hand share: the tables, a table at a time and a triangle at a time, points of 32 bits, what they do
+// for a level's points alike, and creases. They do the levels above the cage, where more is known of each row. The cage itself,
+// a small part of the work, is left to the plain engine.
 #pragma once
 
 #include <cstring>
+#include <utility>
 
 #include "levels.h"
 #include "rounding.h"
@@ -127,6 +128,81 @@ inline void settle(Weight weight, const std::vector<uint32_t>& corners, const in
   for (size_t i = own; i < cells; ++i) sums[i] = rounded_shift(10 * points[i] + sums[i], 4);
 }
 
+// What 6v+a is raised by while a vertex on two creases waits for its second neighbour: no place is above 2^20.
+constexpr int32_t kMostCoordinate = 1 << 20, kMark = 1 << 30;
+
+inline int32_t met(int32_t now, int32_t v, int32_t a) {
+  return now <= kMostCoordinate ? 6 * v + a + kMark : rounded_shift(now - kMark + a, 3);
+}
+
+// Vertex v, at p, meets its neighbour at q.
+inline void meet(int32_t* vertex_points, uint32_t v, Point p, Point q) {
+  const Point now = load(vertex_points, v);
+  store(vertex_points, v, {met(now.x, p.x, q.x), met(now.y, p.y, q.y), met(now.z, p.z, q.z)});
+}
+
+// The creases inside a level, each by one of its halfedges. They are few beside its edges, so they are listed, and followed from
+// one level to the next. A vertex that was added to the cage has two creases or none: only at the cage's own they are counted.
+class Creases {
+ public:
+  explicit Creases(const Cage& cage) : borders(cage.points.size() / 3) {
+    for (uint32_t h = 0; h < cage.twin.size(); ++h) {
+      if (cage.twin[h] == kNoTwin) borders[cage.vert[h]] = 2;
+      if (cage.twin[h] < h && cage.creases[cage.edge[h]] > 0) listed.push_back({h, cage.creases[cage.edge[h]]});
+    }
+  }
+
+  // Halfedge h of a crease gives 3h and 3·NEXT(h)+2, as long as its number lasts.
+  void refine() {
+    std::vector<Crease> finer;
+    for (const Crease& crease : listed)
+      if (crease.number > 1)
+        for (uint32_t h : {3 * crease.halfedge, 3 * next(crease.halfedge) + 2}) finer.push_back({h, crease.number - 1});
+    listed = std::move(finer);
+  }
+
+  // The next level's table, nearly all 0.
+  void put_numbers(const Level& old, uint8_t* fresh) const {
+    std::memset(fresh, 0, old.counts.finer().edges);
+    for (const Crease& crease : listed) std::memset(fresh + 2 * old.edge[crease.halfedge], crease.number - 1, 2);
+  }
+
+  // Over what is there as if no edge inside were a crease.
+  void put_points(const Level& old, int32_t* vertex_points, int32_t* edge_points) const {
+    if (listed.empty()) return;
+    std::vector<uint32_t> count = borders;
+    each_end(old, [&](uint32_t v, uint32_t) {
+      if (v < count.size()) ++count[v];
+    });
+    each_end(old, [&](uint32_t v, uint32_t w) {
+      if (v >= count.size() || count[v] == 2) meet(vertex_points, v, load(old.points, v), load(old.points, w));
+    });
+    for (uint32_t v = 0; v < count.size(); ++v)
+      if (count[v] > 2) store(vertex_points, v, load(old.points, v));
+    for (const Crease& crease : listed) {
+      const uint32_t h = crease.halfedge;
+      store(edge_points, old.edge[h], rounded_shift(load(old.points, old.vert[h]) + load(old.points, old.vert[next(h)]), 1));
+    }
+  }
+
+ private:
+  struct Crease {
+    uint32_t halfedge;
+    int number;
+  };
+  std::vector<uint32_t> borders;  // how many border edges each vertex of the cage has
+  std::vector<Crease> listed;
+
+  // Calls with each end of each crease and with the end opposite to it.
+  template <class Call>
+  void each_end(const Level& old, Call call) const {
+    for (const Crease& crease : listed) {
+      const uint32_t a = old.vert[crease.halfedge], b = old.vert[next(crease.halfedge)];
+      call(a, b), call(b, a);
+    }
+  }
+};
+
 // An edge's cells hold 3a+3b+c from its lower halfedge until the higher one brings d.
 inline void add_edge(int32_t* edge_points, uint32_t e, bool higher, Point a, Point b, Point c) {
   if (higher)
@@ -135,17 +211,22 @@ inline void add_edge(int32_t* edge_points, uint32_t e, bool higher, Point a, Poi
     store(edge_points, e, (a + b) * 3 + c);
 }
 
-// All levels, with put_points(level, vertex points, edge points) for the points of the next one. It finds the first made 0.
+// All levels, with put_points(level, vertex points, edge points) for the points of the next one, as if no edge inside were a
+// crease. It finds the first made 0.
 template <class PutPoints>
 void refine_above(const Cage& cage, int depth, Weight weight, Tables& lent, PutPoints put_points) {
+  Creases creases(cage);
   each_level(cage, depth, lent, [&](const Level& old, const Room& fresh) {
     const Counts n = old.counts;
     if (n.halfedges == cage.twin.size()) return next_plain(old, weight, fresh);
     next_twins(old.twin, fresh.twin, n.halfedges);
     next_verts(old.vert, old.edge, fresh.vert, n);
     next_edges(old.twin, old.edge, fresh.edge, n);
+    creases.refine();
+    creases.put_numbers(old, fresh.creases);
     const size_t cells = 3 * size_t(n.vertices);
     std::memset(fresh.points, 0, cells * sizeof(int32_t));
     put_points(old, fresh.points, fresh.points + cells);
+    creases.put_points(old, fresh.points, fresh.points + cells);
   });
 }

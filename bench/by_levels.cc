@@ -30,6 +30,7 @@ void count_stepping(const CountQuestion& of, Counted& answer) {
     answer[RYEBADGER_AT_V + level] = vertices;
     answer[RYEBADGER_AT_H_ROOM] += halfedges;
     answer[RYEBADGER_AT_V_ROOM] += vertices;
+    answer[RYEBADGER_AT_E_ROOM] += edges;
     vertices += edges;
     edges = 2 * edges + halfedges;
     halfedges *= 4;
@@ -49,4 +50,5 @@ void count_directly(const CountQuestion& of, Counted& answer) {
   answer[RYEBADGER_AT_H_ROOM] = (4 * deepest * deepest - 1) * triangles;
   answer[RYEBADGER_AT_V_ROOM] = (depth + 1) * vertices + (2 * deepest - depth - 2) * edges +
                                 (2 * deepest * deepest + 3 * depth + 7 - 9 * deepest) / 3 * triangles;
+  answer[RYEBADGER_AT_E_ROOM] = (2 * deepest - 1) * edges + (2 * deepest * deepest + 1 - 3 * deepest) * triangles;
 }

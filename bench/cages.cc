@@ -23,6 +23,7 @@ Cage sewn(const std::vector<uint32_t>& corners) {
     cage.twin.push_back(twin);
     cage.edge.push_back(twin < h ? cage.edge[twin] : edges++);
   }
+  cage.creases.assign(edges, 0);
   return cage;
 }
 
@@ -62,16 +63,17 @@ Counts Cage::counts() const {
 }
 
 Tables lent_tables(Counts counts) {
-  size_t halfedges = 7, points = 7;
+  size_t halfedges = 7, points = 7, edges = 7;
   for (int level = 0; level <= kDepth; ++level, counts = counts.finer())
-    halfedges += counts.halfedges, points += 3 * counts.vertices;
+    halfedges += counts.halfedges, points += 3 * counts.vertices, edges += counts.edges;
   const std::vector<uint32_t> table(halfedges);
-  return {table, table, table, std::vector<int32_t>(points)};
+  return {table, table, table, std::vector<int32_t>(points), std::vector<uint8_t>(edges)};
 }
 
 void fill(Tables& lent) {
   for (auto* table : {&lent.twin, &lent.vert, &lent.edge}) std::memset(table->data(), 0xab, 4 * table->size());
   std::memset(lent.points.data(), 0xab, 4 * lent.points.size());
+  std::memset(lent.creases.data(), 0xab, lent.creases.size());
 }
 
 Cage torus(uint32_t columns) { return torus_of(grid(columns, kRows, columns), columns); }
@@ -112,5 +114,19 @@ Cage double_pyramid(uint32_t corners) {
     const double around = kTurn * (i + 0.3 * std::sin(i)) / corners, out = 150 + 40 * std::cos(2.7 * i);
     add_point(cage, out * std::cos(around), out * std::sin(around), 30 * std::sin(1.9 * i));
   }
+  return cage;
+}
+
+Cage with_creases(Cage cage, const std::vector<uint8_t>& numbers) {
+  uint32_t inner = 0;
+  for (uint32_t h = 0; h < cage.twin.size(); ++h)
+    if (cage.twin[h] < h && inner++ % 10 == 0) cage.creases[cage.edge[h]] = numbers[inner / 10 % numbers.size()];
+  return cage;
+}
+
+Cage with_seam(Cage cage, uint32_t first, uint32_t last, uint8_t number) {
+  const auto on_seam = [=](uint32_t v) { return first <= v && v <= last; };
+  for (uint32_t h = 0; h < cage.twin.size(); ++h)
+    if (cage.twin[h] != kNoTwin && on_seam(cage.vert[h]) && on_seam(cage.vert[next(h)])) cage.creases[cage.edge[h]] = number;
   return cage;
 }

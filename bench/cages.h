@@ -18,13 +18,15 @@ struct Counts {
   Counts finer() const { return {4 * halfedges, 2 * edges + halfedges, vertices + edges}; }
 };
 
-// TWIN, VERT and EDGE of halfedges and x, y, z of vertices in 1/1024 mm: a cage's, or of levels end to end.
+// TWIN, VERT and EDGE of halfedges, x, y, z of vertices in 1/1024 mm and creases of edges: a cage's, or of levels end to end.
 struct Tables {
   std::vector<uint32_t> twin, vert, edge;
   std::vector<int32_t> points;
+  std::vector<uint8_t> creases;
 
   bool operator==(const Tables& other) const {
-    return twin == other.twin && vert == other.vert && edge == other.edge && points == other.points;
+    return twin == other.twin && vert == other.vert && edge == other.edge && points == other.points &&
+           creases == other.creases;
   }
 };
 
@@ -52,3 +54,9 @@ Cage wheel(uint32_t triangles);
 
 // Two vertices of so many corners on one rim, whose vertices have four. Its points are irregular.
 Cage double_pyramid(uint32_t corners);
+
+// None of the above has a crease. This is the cage with every tenth inner edge made one, by these numbers in turn.
+Cage with_creases(Cage cage, const std::vector<uint8_t>& numbers);
+
+// And with the inner edges between these vertices, from the first to the last: a row of a torus or of a sheet is such a seam.
+Cage with_seam(Cage cage, uint32_t first, uint32_t last, uint8_t number);

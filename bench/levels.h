@@ -11,11 +11,13 @@ struct Level {
   Counts counts;
   const uint32_t *twin, *vert, *edge;
   const int32_t* points;
+  const uint8_t* creases;
 };
 
 struct Room {
   uint32_t *twin, *vert, *edge;
   int32_t* points;
+  uint8_t* creases;
 };
 
 // Puts the cage in front and calls step(level, room) for every level below the depth.
@@ -25,13 +27,15 @@ void each_level(const Cage& cage, int depth, Tables& lent, Step step) {
   std::copy(cage.vert.begin(), cage.vert.end(), lent.vert.begin());
   std::copy(cage.edge.begin(), cage.edge.end(), lent.edge.begin());
   std::copy(cage.points.begin(), cage.points.end(), lent.points.begin());
+  std::copy(cage.creases.begin(), cage.creases.end(), lent.creases.begin());
   Counts counts = cage.counts();
-  size_t at = 0, point = 0;
+  size_t at = 0, point = 0, edge = 0;
   for (int level = 0; level < depth; ++level) {
-    const Level old{counts, &lent.twin[at], &lent.vert[at], &lent.edge[at], &lent.points[point]};
+    const Level old{counts, &lent.twin[at], &lent.vert[at], &lent.edge[at], &lent.points[point], &lent.creases[edge]};
     at += counts.halfedges;
     point += 3 * size_t(counts.vertices);
-    step(old, Room{&lent.twin[at], &lent.vert[at], &lent.edge[at], &lent.points[point]});
+    edge += counts.edges;
+    step(old, Room{&lent.twin[at], &lent.vert[at], &lent.edge[at], &lent.points[point], &lent.creases[edge]});
     counts = counts.finer();
   }
 }

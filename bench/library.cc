@@ -21,14 +21,15 @@ void expect_done(const char* operation, const uint32_t* answer) {
 void library_refine(const Cage& cage, int depth, Weight weight, Tables& lent) {
   uint32_t answer[RYEBADGER_COUNTS_ANSWER];
   const uint32_t number = weight == Weight::kShort ? RYEBADGER_SHORT_WEIGHT : RYEBADGER_PAPER_WEIGHT;
-  ryebadger_refine(CELLS(cage.twin), CELLS(cage.vert), CELLS(cage.edge), CELLS(cage.points), uint64_t(depth), number,
-                   CELLS(lent.twin), CELLS(lent.vert), CELLS(lent.edge), CELLS(lent.points), answer);
+  ryebadger_refine(CELLS(cage.twin), CELLS(cage.vert), CELLS(cage.edge), CELLS(cage.points), CELLS(cage.creases),
+                   uint64_t(depth), number, CELLS(lent.twin), CELLS(lent.vert), CELLS(lent.edge), CELLS(lent.points),
+                   CELLS(lent.creases), answer);
   expect_done("refining", answer);
 }
 
 void library_check(const Cage& cage) {
   uint32_t answer[RYEBADGER_CHECK_ANSWER];
-  ryebadger_check(CELLS(cage.twin), CELLS(cage.vert), CELLS(cage.edge), CELLS(cage.points), answer);
+  ryebadger_check(CELLS(cage.twin), CELLS(cage.vert), CELLS(cage.edge), CELLS(cage.points), CELLS(cage.creases), answer);
   expect_done("the check", answer);
 }
 

@@ -1,5 +1,5 @@
-// The report: the proved library beside other engines, in refining with either weight, in building, in writing STL and in the
-// count question, its cost by depth, and its other operations by size.
+// The report: the proved library beside other engines, in refining with either weight and with creases, in building, in writing
+// STL and in the count question, its cost by depth, and its other operations by size.
 #include <cstdio>
 #include <functional>
 #include <stdexcept>
@@ -8,6 +8,7 @@
 #include "building.h"
 #include "clock.h"
 #include "counts.h"
+#include "creases.h"
 #include "engines.h"
 #include "library.h"
 #include "rows.h"
@@ -65,8 +66,9 @@ std::vector<Engine<Cage>> engines(Tables& levels, Tables& lent) {
 
 void print_cage(const char* name, const Cage& cage, const Tables& lent) {
   const Counts counts = cage.counts();
+  const double bytes = 4.0 * double(3 * lent.twin.size() + lent.points.size()) + double(lent.creases.size());
   std::printf("%s: H %u, E %u, V %u, %u border edges; lent %.1f MB\n", name, counts.halfedges, counts.edges, counts.vertices,
-              2 * counts.edges - counts.halfedges, 4e-6 * double(3 * lent.twin.size() + lent.points.size()));
+              2 * counts.edges - counts.halfedges, 1e-6 * bytes);
 }
 
 bool print_engines() {
@@ -123,6 +125,7 @@ void print_operations() {
   for (size_t i = 0; i < cages.size(); ++i) {
     Tables lent = cages[i];
     fill(lent);
+    lent.creases = cages[i].creases;  // which the file has none of
     print_operation("read, torus", cages[i], [&] { library_read(files[i], lent); });
     if (!(lent == cages[i])) throw std::runtime_error("a cage read is not the cage written");
   }
@@ -136,11 +139,11 @@ int main(int count, char** words) try {
     std::fprintf(stderr, "usage: bench/run [--bars]\n");
     return 2;
   }
-  const bool refining = print_engines(), weights = print_weights(), building = print_building(), stl = print_stl(),
-             counts = print_counts();
+  const bool refining = print_engines(), weights = print_weights(), creases = print_creases(), building = print_building(),
+             stl = print_stl(), counts = print_counts();
   print_depths();
   print_operations();
-  return bars && !(refining && weights && building && stl && counts) ? 1 : 0;
+  return bars && !(refining && weights && creases && building && stl && counts) ? 1 : 0;
 } catch (const std::exception& fault) {
   std::fprintf(stderr, "bench/run: %s\n", fault.what());
   return 3;

@@ -24,14 +24,34 @@ struct Point {
   void AddWithWeight(const Point& p, Real weight) { x += weight * p.x, y += weight * p.y, z += weight * p.z; }
 };
 
+// The creases inside: two vertices of each, and the sharpness.
+struct Creases {
+  std::vector<int> ends;
+  std::vector<float> sharpness;
+
+  explicit Creases(const Cage& cage) {
+    for (uint32_t h = 0; h < cage.twin.size(); ++h) {
+      const uint8_t number = cage.creases[cage.edge[h]];
+      if (cage.twin[h] > h || number == 0) continue;
+      ends.insert(ends.end(), {int(cage.vert[h]), int(cage.vert[next(h)])});
+      sharpness.push_back(number);
+    }
+  }
+};
+
 Refiner refiner_of(const Cage& cage) {
   const std::vector<int> corners(cage.vert.begin(), cage.vert.end()), three(cage.vert.size() / 3, 3);
+  const Creases creases(cage);
   Far::TopologyDescriptor descriptor;
   descriptor.numVertices = int(cage.points.size() / 3);
   descriptor.numFaces = int(three.size());
   descriptor.numVertsPerFace = three.data();
   descriptor.vertIndicesPerFace = corners.data();
+  descriptor.numCreases = int(creases.sharpness.size());
+  descriptor.creaseVertexIndexPairs = creases.ends.data();
+  descriptor.creaseWeights = creases.sharpness.data();
   Sdc::Options options;
+  options.SetCreasingMethod(Sdc::Options::CREASE_UNIFORM);
   options.SetVtxBoundaryInterpolation(Sdc::Options::VTX_BOUNDARY_EDGE_ONLY);
   using Factory = Far::TopologyRefinerFactory<Far::TopologyDescriptor>;
   return Refiner(Factory::Create(descriptor, Factory::Options(Sdc::SCHEME_LOOP, options)));

@@ -16,19 +16,6 @@ void add_spokes(const Level& old, int32_t* __restrict sums) {
   }
 }
 
-// What 6v+a is raised by while a border vertex waits for its second neighbour: no place is above 2^20.
-constexpr int32_t kMostCoordinate = 1 << 20, kMark = 1 << 30;
-
-inline int32_t met(int32_t now, int32_t v, int32_t a) {
-  return now <= kMostCoordinate ? 6 * v + a + kMark : rounded_shift(now - kMark + a, 3);
-}
-
-// Border vertex v, at p, meets its neighbour at q.
-inline void meet(int32_t* vertex_points, uint32_t v, Point p, Point q) {
-  const Point now = load(vertex_points, v);
-  store(vertex_points, v, {met(now.x, p.x, q.x), met(now.y, p.y, q.y), met(now.z, p.z, q.z)});
-}
-
 // Where the next level's points of vertices and of edges stand.
 struct Fresh {
   int32_t *vertices, *edges;

@@ -25,15 +25,33 @@ void next_tables(const Level& old, const Room& fresh) {
   }
 }
 
+// The halves of an edge carry its number less one, never below 0; the edges across a triangle, which come last, carry 0.
+void next_creases(const Level& old, uint8_t* fresh) {
+  const uint32_t edges = old.counts.edges;
+  for (uint32_t e = 0; e < edges; ++e) fresh[2 * e] = fresh[2 * e + 1] = std::max<uint8_t>(old.creases[e], 1) - 1;
+  std::fill_n(fresh + 2 * edges, old.counts.halfedges, 0);
+}
+
+// Whether an edge is a crease. Most levels have none inside, and are asked once for all.
+struct Sharp {
+  const Level& old;
+  bool inside;
+
+  explicit Sharp(const Level& level)
+      : old(level), inside(std::any_of(old.creases, old.creases + old.counts.edges, [](uint8_t number) { return number > 0; })) {}
+
+  bool operator()(uint32_t h) const { return old.twin[h] == kNoTwin || (inside && old.creases[old.edge[h]] > 0); }
+};
+
 // E.1 and E.2, at the lower halfedge of each edge.
-void edge_points(const Level& old, int32_t* fresh) {
+void edge_points(const Level& old, const Sharp& sharp, int32_t* fresh) {
   for (uint32_t h = 0; h < old.counts.halfedges; ++h) {
     const uint32_t t = old.twin[h];
     if (t < h) continue;
     const int32_t* a = &old.points[3 * old.vert[h]];
     const int32_t* b = &old.points[3 * old.vert[next(h)]];
     int32_t* to = &fresh[3 * (old.counts.vertices + old.edge[h])];
-    if (t == kNoTwin) {
+    if (sharp(h)) {
       for (int k = 0; k < 3; ++k) to[k] = rounded(int64_t(a[k]) + b[k], 2);
       continue;
     }
@@ -50,44 +68,57 @@ int32_t inner_place(Weight weight, int64_t n, int64_t v, int64_t s) {
   return rounded((kParts - n * w) * v + w * s, kParts);
 }
 
-// V.2 or V.3 of the vertex that a halfedge leaves.
-void vertex_point(const Level& old, Weight weight, uint32_t start, int32_t* fresh) {
-  const uint32_t v = old.vert[start];
-  int64_t sum[3] = {0, 0, 0}, corners = 0;
-  const auto add = [&](uint32_t w) {
-    for (int k = 0; k < 3; ++k) sum[k] += old.points[3 * w + k];
+// Points added up.
+struct Ends {
+  const Level& old;
+  int64_t count = 0, sum[3] = {0, 0, 0};
+
+  void add(uint32_t v) {
+    ++count;
+    for (int k = 0; k < 3; ++k) sum[k] += old.points[3 * v + k];
+  }
+};
+
+// V.2, V.3 or the old place of the vertex that a halfedge leaves.
+void vertex_point(const Level& old, const Sharp& sharp, Weight weight, uint32_t start, int32_t* fresh) {
+  Ends spokes{old}, creases{old};
+  const auto add = [&](uint32_t h, uint32_t far_end) {
+    spokes.add(far_end);
+    if (sharp(h)) creases.add(far_end);
   };
+  // One way round, and where that ends at the border from the start the other way.
   uint32_t h = start, last = start;
   do {
-    add(old.vert[next(h)]);
-    ++corners;
+    add(h, old.vert[next(h)]);
     last = h;
     h = old.twin[prev(h)];
   } while (h != start && h != kNoTwin);
-  if (h == start) {
-    for (int k = 0; k < 3; ++k) fresh[3 * v + k] = inner_place(weight, corners, old.points[3 * v + k], sum[k]);
-    return;
+  if (h == kNoTwin) {
+    add(prev(last), old.vert[prev(last)]);
+    for (h = start; old.twin[h] != kNoTwin;) h = next(old.twin[h]), add(h, old.vert[next(h)]);
   }
-  uint32_t first = start;
-  while (old.twin[first] != kNoTwin) first = next(old.twin[first]);
-  sum[0] = sum[1] = sum[2] = 0;
-  add(old.vert[next(first)]);
-  add(old.vert[prev(last)]);
-  for (int k = 0; k < 3; ++k) fresh[3 * v + k] = rounded(6 * int64_t(old.points[3 * v + k]) + sum[k], 8);
+  const int32_t* v = &old.points[3 * old.vert[start]];
+  int32_t* to = &fresh[3 * old.vert[start]];
+  for (int k = 0; k < 3; ++k)
+    to[k] = creases.count > 2    ? v[k]
+            : creases.count == 2 ? rounded(6 * int64_t(v[k]) + creases.sum[k], 8)
+                                 : inner_place(weight, spokes.count, v[k], spokes.sum[k]);
 }
 
-void vertex_points(const Level& old, Weight weight, int32_t* fresh) {
+void vertex_points(const Level& old, const Sharp& sharp, Weight weight, int32_t* fresh) {
   std::vector<uint32_t> leaving(old.counts.vertices);
   for (uint32_t h = 0; h < old.counts.halfedges; ++h) leaving[old.vert[h]] = h;
-  for (uint32_t start : leaving) vertex_point(old, weight, start, fresh);
+  for (uint32_t start : leaving) vertex_point(old, sharp, weight, start, fresh);
 }
 
 }  // namespace
 
 void next_plain(const Level& old, Weight weight, const Room& fresh) {
+  const Sharp sharp(old);
   next_tables(old, fresh);
-  edge_points(old, fresh.points);
-  vertex_points(old, weight, fresh.points);
+  next_creases(old, fresh.creases);
+  edge_points(old, sharp, fresh.points);
+  vertex_points(old, sharp, weight, fresh.points);
 }
 
 void refine_plain(const Cage& cage, int depth, Weight weight, Tables& lent) {

@@ -1,5 +1,6 @@
-/* example FILE DEPTH short|paper [STL]: reads a cage file, quotes the room for the depth, refines with the short weight or the
- * paper's, and prints H, E and V of each level. With a fourth argument it writes the last level as STL to that file.
+/* example FILE DEPTH short|paper [STL [EDGE=NUMBER ...]]: reads a cage file, quotes the room for the depth, refines with the
+ * short weight or the paper's, and prints H, E and V of each level. With a fourth argument it writes the last level as STL to
+ * that file; each further one makes a crease of an edge, which then stays sharp for so many levels.
  * Ends with status 1 where the cage or the depth is refused, and with 2 where anything else is wrong. */
 #include "ryebadger.h"
 
@@ -7,11 +8,12 @@
 #include <stdlib.h>
 #include <string.h>
 
-static const char usage[] = "usage: example FILE DEPTH short|paper [STL]";
+static const char usage[] = "usage: example FILE DEPTH short|paper [STL [EDGE=NUMBER ...]]";
 enum { H = RYEBADGER_MOST_HALFEDGES, V = RYEBADGER_MOST_VERTICES };
 static uint8_t file[RYEBADGER_LONGEST_FILE + 1]; /* a byte more, so that a longer file is refused as such */
 static uint32_t twin[H], vert[H], edge[H], answer[RYEBADGER_COUNTS_ANSWER];
 static int32_t points[3 * V];
+static uint8_t creases[H]; /* zeros: there are at most as many edges as halfedges */
 
 static void end_if(int wrong, const char *what) {
     if (wrong) fprintf(stderr, "example: %s\n", what), exit(2);
@@ -27,6 +29,17 @@ static enum ryebadger_weight weight_named(const char *word) {
     return is_short ? RYEBADGER_SHORT_WEIGHT : RYEBADGER_PAPER_WEIGHT;
 }
 
+static void crease(const char *word, size_t edges) {
+    char *rest;
+    const unsigned long long e = strtoull(word, &rest, 10);
+    end_if(rest == word || *rest != '=', usage);
+    const char *number = rest + 1;
+    const unsigned long long levels = strtoull(number, &rest, 10);
+    end_if(rest == number || *rest != '\0' || levels > UINT8_MAX, usage);
+    end_if(e >= edges, "the cage has no edge of that number");
+    creases[e] = (uint8_t)levels;
+}
+
 static void write_stl(const char *name, const uint32_t *corners, size_t h, const int32_t *places, size_t v) {
     const size_t length = RYEBADGER_STL_LENGTH(h / 3);
     uint8_t *stl = malloc(length);
@@ -40,7 +53,7 @@ static void write_stl(const char *name, const uint32_t *corners, size_t h, const
 }
 
 int main(int argc, char **argv) {
-    end_if(argc != 4 && argc != 5, usage);
+    end_if(argc < 4, usage);
     const enum ryebadger_weight weight = weight_named(argv[3]);
     char *rest;
     const uint64_t depth = strtoull(argv[2], &rest, 10);
@@ -53,22 +66,27 @@ int main(int argc, char **argv) {
     ryebadger_read(file, length, twin, H, vert, H, edge, H, points, 3 * V, answer);
     end_if_refused();
     const size_t h = answer[2], v = answer[3];
-    ryebadger_check(twin, h, vert, h, edge, h, points, 3 * v, answer);
+    ryebadger_edges(twin, h, answer);
+    const size_t e = answer[0];
+    for (int word = 5; word < argc; word++) crease(argv[word], e);
+    ryebadger_check(twin, h, vert, h, edge, h, points, 3 * v, creases, e, answer);
     end_if_refused();
-    ryebadger_counts(h, answer[3], v, depth, answer); /* answer[3] is E here */
+    ryebadger_counts(h, e, v, depth, answer);
     end_if_refused();
     const size_t room = answer[RYEBADGER_AT_H_ROOM], points_room = 3 * answer[RYEBADGER_AT_V_ROOM];
+    const size_t creases_room = answer[RYEBADGER_AT_E_ROOM];
     uint32_t *lent = malloc(3 * room * sizeof *lent);
     int32_t *places = malloc(points_room * sizeof *places);
-    end_if(lent == NULL || places == NULL, "there is no memory for the levels");
-    ryebadger_refine(twin, h, vert, h, edge, h, points, 3 * v, depth, weight, /* into */ lent, room, lent + room, room,
-                     lent + 2 * room, room, places, points_room, answer);
+    uint8_t *numbers = malloc(creases_room);
+    end_if(lent == NULL || places == NULL || numbers == NULL, "there is no memory for the levels");
+    ryebadger_refine(twin, h, vert, h, edge, h, points, 3 * v, creases, e, depth, weight, /* into */ lent, room,
+                     lent + room, room, lent + 2 * room, room, places, points_room, numbers, creases_room, answer);
     end_if_refused();
     for (unsigned level = 0; level <= depth; level++)
         printf("%u %u %u %u\n", level, answer[RYEBADGER_AT_H + level], answer[RYEBADGER_AT_E + level],
                answer[RYEBADGER_AT_V + level]);
     end_if(fflush(stdout) != 0, "standard output cannot be written");
-    if (argc == 5) { /* the last level stands at the end of the room */
+    if (argc > 4) { /* the last level stands at the end of the room */
         const size_t last_h = answer[RYEBADGER_AT_H + depth], last_v = answer[RYEBADGER_AT_V + depth];
         write_stl(argv[4], lent + 2 * room - last_h, last_h, places + points_room - 3 * last_v, last_v);
     }

@@ -4,9 +4,10 @@
  *
  * The archive to link is target/host/libryebadger.a, which host/build makes.
  *
- * A cage is four tables. TWIN, VERT and EDGE hold a number for each halfedge, points x, y, z of each vertex in 1/1024 mm. A
- * table is handed over as a pointer to its first cell and its length in cells. Tables that are only read are `const`; the
- * others are lent, to be written.
+ * A cage is five tables. TWIN, VERT and EDGE hold a number for each halfedge, points x, y, z of each vertex in 1/1024 mm,
+ * creases a number for each edge: how many levels it stays sharp for, 0 to RYEBADGER_MOST_CREASE, and 0 on a border edge. A
+ * cage without creases has a table of zeros, as many as ryebadger_edges tells. A table is handed over as a pointer to its
+ * first cell and its length in cells. Tables that are only read are `const`; the others are lent, to be written.
  *
  * An operation answers for tables of any length with any cells. It uses no memory but its stack and what it is lent, and
  * keeps nothing, so that any number of threads may call at once.
@@ -15,7 +16,8 @@
  *   answer[0]  the number: 0 is done, any other is the refusal of that number
  *   answer[1]  the place: 0 when done
  *   the rest   the values: all 0 on a refusal
- * A refusal alters nothing but the answer. Done, every cell that the operation does not promise to write is untouched.
+ * Only ryebadger_edges, which never refuses, has neither number nor place. A refusal alters nothing but the answer. Done,
+ * every cell that the operation does not promise to write is untouched.
  *
  * What the caller has to see to, since no operation can check it:
  *   - A pointer is never null and is aligned for its cells, also with length 0. It need not point at memory then.
@@ -35,10 +37,11 @@ extern "C" {
 /* The TWIN cell of a halfedge that has no twin. */
 #define RYEBADGER_MARKER UINT32_C(4294967295)
 
-/* The limits: H, V and the depth at most these, each coordinate from minus the last of them to it. */
+/* The limits: H, V, the depth and the number of a crease at most these, each coordinate from minus the last of them to it. */
 #define RYEBADGER_MOST_HALFEDGES 3072
 #define RYEBADGER_MOST_VERTICES 2048
 #define RYEBADGER_MOST_DEPTH 6
+#define RYEBADGER_MOST_CREASE 10
 #define RYEBADGER_MOST_COORDINATE 1048576
 
 /* The levels of the deepest refinement, level 0 among them, and the bytes of the longest cage file. */
@@ -59,8 +62,8 @@ enum ryebadger_weight { RYEBADGER_SHORT_WEIGHT = 0, RYEBADGER_PAPER_WEIGHT = 1 }
 #define RYEBADGER_MOST_CORNERS 32
 
 /* The numbers of an answer, by the documents' names, with the place that goes with each. Checks run in the order of their
- * numbers, except in reading and in building, and except that 14 comes after 7 and before 8; the first that holds is the
- * answer. */
+ * numbers, except in reading and in building, and except that the length of the creases is looked at after 3 and before 4,
+ * that 15 comes after 6 and before 7, and 14 after 7 and before 8; the first that holds is the answer. */
 enum ryebadger_number {
     RYEBADGER_DONE = 0,     /* 0 */
     RYEBADGER_SHAPE = 1,    /* lengths or counts that no cage has: 0 */
@@ -71,78 +74,105 @@ enum ryebadger_number {
     RYEBADGER_EDGE = 6,     /* an edge out of range, unlike the twin's or carried elsewhere: the lowest such halfedge */
     RYEBADGER_FAN = 7,      /* corners at a vertex that are not one fan: the lowest such vertex */
     RYEBADGER_POINT = 8,    /* a coordinate out of range: the lowest such index in the points */
-    RYEBADGER_ROOM = 9,     /* a lent table is too short: the first, as 1 twin, 2 vert, 3 edge, 4 points, 5 file, 6 STL file */
+    RYEBADGER_ROOM = 9,     /* a lent table is too short: the first, by its place, which enum ryebadger_place has */
     RYEBADGER_SHORT = 10,   /* the file ends before a field's head and payload are whole: the offset of that head */
     RYEBADGER_FIELD = 11,   /* wrong tag, length or form number: the offset of that head */
     RYEBADGER_EXTRA = 12,   /* bytes after the end field: the offset of the first */
     RYEBADGER_DOUBLED = 13, /* two halfedges from the same vertex to the same one: the lowest that has such a double */
-    RYEBADGER_VALENCE = 14  /* an inner vertex of too many corners for the paper's weight: the lowest such vertex */
+    RYEBADGER_VALENCE = 14, /* an inner vertex of too many corners for the paper's weight: the lowest such vertex */
+    RYEBADGER_CREASE = 15   /* a crease out of range, or on a border edge and not 0: the lowest such edge */
+};
+
+/* The places of RYEBADGER_ROOM: what is lent, in the order in which it is looked at. */
+enum ryebadger_place {
+    RYEBADGER_TWIN_TABLE = 1,
+    RYEBADGER_VERT_TABLE = 2,
+    RYEBADGER_EDGE_TABLE = 3,
+    RYEBADGER_POINTS_TABLE = 4,
+    RYEBADGER_CAGE_FILE = 5,
+    RYEBADGER_STL_FILE = 6,
+    RYEBADGER_CREASE_TABLE = 7
 };
 
 /* The lengths of the answers. Building answers as the cage check does, refining as the count question, writing STL as writing
  * a cage file. */
 #define RYEBADGER_CHECK_ANSWER 7
-#define RYEBADGER_COUNTS_ANSWER 25
+#define RYEBADGER_EDGES_ANSWER 1
+#define RYEBADGER_COUNTS_ANSWER 26
 #define RYEBADGER_CORNERS_ANSWER 5
 #define RYEBADGER_READ_ANSWER 4
 #define RYEBADGER_WRITE_ANSWER 3
 
 /* Where the answer of the count question, which refining gives too, has its values: H, E and V of level 0, those of level d
- * standing d cells further, and the room, which is the sums of H and of V over levels 0 to the depth. */
+ * standing d cells further, and the room, which is the sums of H, of V and of E over levels 0 to the depth. */
 enum ryebadger_counts_values {
     RYEBADGER_AT_H = 2,
     RYEBADGER_AT_E = 9,
     RYEBADGER_AT_V = 16,
     RYEBADGER_AT_H_ROOM = 23,
-    RYEBADGER_AT_V_ROOM = 24
+    RYEBADGER_AT_V_ROOM = 24,
+    RYEBADGER_AT_E_ROOM = 25
 };
 
-/* The cage check: refusals 1 to 8. Done, the values are H, E, F, V and B of the cage. V is a third of the points' length, E
- * and B are counted. */
+/* E of any TWIN table, which is how long the creases of its cage have to be: how many halfedges have no twin or a twin with a
+ * lower number. It is no check, and E is never more than the table's length. Of so long a table that E is above 4294967295 it
+ * tells 4294967295. */
+void ryebadger_edges(const uint32_t *twin, size_t twin_length, uint32_t answer[RYEBADGER_EDGES_ANSWER]);
+
+/* The cage check: refusals 1 to 8 and, after 6 and before 7, 15. Done, the values are H, E, F, V and B of the cage. V is a
+ * third of the points' length, E and B are counted. */
 void ryebadger_check(const uint32_t *twin, size_t twin_length, const uint32_t *vert, size_t vert_length,
                      const uint32_t *edge, size_t edge_length, const int32_t *points, size_t points_length,
-                     uint32_t answer[RYEBADGER_CHECK_ANSWER]);
+                     const uint8_t *creases, size_t creases_length, uint32_t answer[RYEBADGER_CHECK_ANSWER]);
 
 /* The count question: refusals 1 and 2. Done, the values are H of the seven levels, E of them and V of them, each 0 past the
- * depth asked, then the room in halfedges and in vertices. */
+ * depth asked, then the room in halfedges, in vertices and in edges. */
 void ryebadger_counts(uint64_t halfedges, uint64_t edges, uint64_t vertices, uint64_t depth,
                       uint32_t answer[RYEBADGER_COUNTS_ANSWER]);
 
-/* Refining with a weight of enum ryebadger_weight: refusals 1 to 9 and, with the paper's weight, at any depth, 14 after 7 and
- * before 8. Done, levels 0 to the depth stand end to end from the front of the four lent tables, level 0 being the cage, and
- * the values are the count question's for this cage and depth. Needed is the room in halfedges in each of the first three
- * lent tables and three times the room in vertices in the points; cells past that are untouched. A coordinate is rounded once
- * per level, halves away from zero. So left and right come out as mirrors: negating every x of the cage's points, or every y
- * or z, negates exactly those numbers at every level and changes nothing else. */
+/* Refining with a weight of enum ryebadger_weight: the cage check's refusals in its order, 9, and with the paper's weight, at
+ * any depth, 14 after 7 and before 8. Done, levels 0 to the depth stand end to end from the front of the five lent tables,
+ * level 0 being the cage, and the values are the count question's for this cage and depth. Needed is the room in halfedges
+ * in each of the first three lent tables, three times the room in vertices in the points and the room in edges in the
+ * creases; cells past that are untouched.
+ *
+ * An edge is a crease while its number is above 0 or it is a border edge. Its two halves carry the number less one, never
+ * below 0, and new edges across a triangle carry 0. An inner crease gets its midpoint. A vertex with two creases follows the
+ * rule of a border vertex along them, with more than two it stays put, with fewer it is smooth.
+ *
+ * A coordinate is rounded once per level, halves away from zero. So left and right come out as mirrors: negating every x of
+ * the cage's points, or every y or z, negates exactly those numbers at every level and changes nothing else. */
 void ryebadger_refine(const uint32_t *twin, size_t twin_length, const uint32_t *vert, size_t vert_length,
                       const uint32_t *edge, size_t edge_length, const int32_t *points, size_t points_length,
-                      uint64_t depth, uint32_t weight, uint32_t *lent_twin, size_t lent_twin_length,
-                      uint32_t *lent_vert, size_t lent_vert_length, uint32_t *lent_edge, size_t lent_edge_length,
-                      int32_t *lent_points, size_t lent_points_length, uint32_t answer[RYEBADGER_COUNTS_ANSWER]);
+                      const uint8_t *creases, size_t creases_length, uint64_t depth, uint32_t weight,
+                      uint32_t *lent_twin, size_t lent_twin_length, uint32_t *lent_vert, size_t lent_vert_length,
+                      uint32_t *lent_edge, size_t lent_edge_length, int32_t *lent_points, size_t lent_points_length,
+                      uint8_t *lent_creases, size_t lent_creases_length, uint32_t answer[RYEBADGER_COUNTS_ANSWER]);
 
 /* The corner question: refusal 1. Done, the values are the triangle's three corner numbers, as stored in the table. */
 void ryebadger_corners(const uint32_t *vert, size_t vert_length, uint64_t triangle,
                        uint32_t answer[RYEBADGER_CORNERS_ANSWER]);
 
 /* Reading a cage file: refusals 1, 2 and 9 to 12, in the order in which the file is read, 9 last. Done, the values are H and
- * V, and the cage stands at the front of the lent tables; cells past H, or past 3V in the points, are untouched. The cage
- * has not been checked: checks 3 to 8 are for ryebadger_check, ryebadger_refine and ryebadger_write. */
+ * V, and the cage stands at the front of the lent tables; cells past H, or past 3V in the points, are untouched. The file has
+ * no creases, and its cage counts as all zeros. The cage has not been checked: checks 3 to 8 are for ryebadger_check,
+ * ryebadger_refine and ryebadger_write. */
 void ryebadger_read(const uint8_t *file, size_t file_length, uint32_t *lent_twin, size_t lent_twin_length,
                     uint32_t *lent_vert, size_t lent_vert_length, uint32_t *lent_edge, size_t lent_edge_length,
                     int32_t *lent_points, size_t lent_points_length, uint32_t answer[RYEBADGER_READ_ANSWER]);
 
-/* Writing a cage file: refusals 1 to 9, where 9 has place 5. Done, the value is the file's length, which is 24 + 6H + 12V, and
- * the file stands at the front of the lent buffer; bytes past it are untouched. */
+/* Writing a cage file, which has no place for creases: refusals 1 to 9, where 9 has place 5. Done, the value is the file's
+ * length, which is 24 + 6H + 12V, and the file stands at the front of the lent buffer; bytes past it are untouched. */
 void ryebadger_write(const uint32_t *twin, size_t twin_length, const uint32_t *vert, size_t vert_length,
                      const uint32_t *edge, size_t edge_length, const int32_t *points, size_t points_length,
                      uint8_t *lent_file, size_t lent_file_length, uint32_t answer[RYEBADGER_WRITE_ANSWER]);
 
 /* Building a cage from plain triangles, which are VERT, a triangle's three corner numbers after another's, and the points.
  * Refusals 1, 2, 13, 4, 5, 7, 8 and 9, in this order; 9 has place 1 or 3. Done, TWIN and EDGE stand at the front of the
- * lent tables. With VERT and the points they are a cage that the check accepts, and the values are the check's. Two
- * different halfedges are twins exactly when they run between the same two vertices the opposite way, and edges are
- * numbered in the order of their lowest halfedges. Needed is H in each lent table; cells past that are untouched. It takes
- * less than 256 KB of stack, and time that goes by H and V, whatever the numbers are. */
+ * lent tables. With VERT, the points and creases of 0 they are a cage that the check accepts, and the values are the
+ * check's. Two different halfedges are twins exactly when they run between the same two vertices the opposite way, and edges
+ * are numbered in the order of their lowest halfedges. Needed is H in each lent table; cells past that are untouched. It
+ * takes less than 256 KB of stack, and time that goes by H and V, whatever the numbers are. */
 void ryebadger_build(const uint32_t *vert, size_t vert_length, const int32_t *points, size_t points_length,
                      uint32_t *lent_twin, size_t lent_twin_length, uint32_t *lent_edge, size_t lent_edge_length,
                      uint32_t answer[RYEBADGER_CHECK_ANSWER]);

@@ -29,7 +29,8 @@ pub fn build(vert: &[u32], points: &[i32], lent: LentJoins) -> Result<CageCounts
     Ok(counts)
 }
 
-/// The four tables, not yet checked for more than refusals 1, 2 and 13.
+/// The tables, not yet checked for more than refusals 1, 2 and 13. Plain
+/// triangles have no creases.
 fn built_cage(vert: &[u32], points: &[i32]) -> Result<Cage, Refusal> {
     let good = makes_triangles(vert.len() as u64) && points.len().is_multiple_of(3);
     refuse_if(!good, SHAPE, 0)?;
@@ -39,12 +40,14 @@ fn built_cage(vert: &[u32], points: &[i32]) -> Result<Cage, Refusal> {
         return Err(Refusal::new(DOUBLED, h));
     }
     let twin = directions.twins();
-    Ok(Cage {
+    let cage = Cage {
         edge: edges_by_lowest_halfedge(&twin),
         twin,
         vert: vert.to_vec(),
         points: points.to_vec(),
-    })
+        ..Cage::default()
+    };
+    Ok(cage.without_creases())
 }
 
 /// From which vertex to which a halfedge runs. Any two numbers are a pair,

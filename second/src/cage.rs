@@ -1,7 +1,8 @@
-//! Document 01, "The cage": the four tables, the no-twin marker, the limits,
-//! the way round a triangle, and the counts E and B.
+//! Document 01, "The cage": the tables, the no-twin marker, the limits, the way
+//! round a triangle, and the counts E and B; with the crease table of document
+//! 02, §6, "Edges that stay sharp".
 //!
-//! A level has the same four tables as a cage, so the same type holds it.
+//! A level has the same tables as a cage, so the same type holds it.
 
 /// The TWIN cell of a halfedge that has no twin.
 pub const MARKER: u32 = 4_294_967_295;
@@ -26,6 +27,15 @@ pub struct Cage {
     pub edge: Vec<u32>,
     /// x, y, z of each vertex, in 1/1024 mm.
     pub points: Vec<i32>,
+    /// For how many levels each edge stays sharp.
+    pub creases: Vec<u8>,
+}
+
+/// E of any TWIN table: the halfedges that have no twin or a twin with a lower
+/// number. It tells how long a crease table has to be.
+pub fn edges(twin: &[u32]) -> usize {
+    let counts = |&(h, &twin): &(usize, &u32)| twin == MARKER || (twin as usize) < h;
+    twin.iter().enumerate().filter(counts).count()
 }
 
 impl Cage {
@@ -44,14 +54,22 @@ impl Cage {
         self.points.len() / 3
     }
 
-    /// E: the halfedges that have no twin or a twin with a lower number.
+    /// E.
     pub fn edge_count(&self) -> usize {
-        self.halfedges().filter(|&h| self.is_above_twin(h)).count()
+        edges(&self.twin)
     }
 
     /// B: the halfedges that have no twin.
     pub fn border_count(&self) -> usize {
         self.borders().count()
+    }
+
+    /// The cage with a 0 for each edge in place of its crease table.
+    pub fn without_creases(self) -> Cage {
+        Cage {
+            creases: vec![0; self.edge_count()],
+            ..self
+        }
     }
 
     pub(crate) fn halfedges(&self) -> std::ops::Range<usize> {

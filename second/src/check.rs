@@ -1,11 +1,15 @@
 //! Document 01, "Why a cage is sent back": the cage check, refusals 1 to 8; and
-//! the checks of refining, with refusal 14 of document 02, §4 in its place.
+//! what document 02 adds in its place: 14 of §4, in refining alone, and of §6
+//! what is said of the crease table by 1 and by 15.
 
 use std::collections::{HashMap, HashSet};
 
 use crate::cage::{next, Cage, COORDINATE_LIMIT};
+use crate::creases::lowest_bad_crease;
 use crate::fan;
-use crate::refusal::{refuse_if, Refusal, EDGE, FAN, POINT, SHAPE, TWIN, UNUSED, VALENCE, VERTEX};
+use crate::refusal::{
+    refuse_if, Refusal, CREASE, EDGE, FAN, POINT, SHAPE, TWIN, UNUSED, VALENCE, VERTEX,
+};
 use crate::size::{makes_triangles, refuse_above_limits};
 use crate::valence::lowest_inner_vertex_of_too_many_corners;
 use crate::weight::Weight;
@@ -20,7 +24,7 @@ pub struct CageCounts {
     pub borders: u64,
 }
 
-/// The cage check: refusals 1 to 8. It has no depth and no weight.
+/// The cage check: refusals 1 to 8, and 15. It has no depth and no weight.
 pub fn check(cage: &Cage) -> Result<CageCounts, Refusal> {
     refuse_bad_shape(cage)?;
     refuse_bad_size(cage, 0)?;
@@ -35,6 +39,11 @@ pub fn check_any_size(cage: &Cage) -> Result<CageCounts, Refusal> {
     refuse_where_broken(cage, &TABLE_RULES)?;
     refuse_where_broken(cage, &[POINT_RULE])?;
     Ok(counts_of(cage))
+}
+
+/// The cage check for operations that take no crease table.
+pub(crate) fn check_without_creases(cage: &Cage) -> Result<CageCounts, Refusal> {
+    check(&cage.clone().without_creases())
 }
 
 /// The checks of refining before there is a question of room: the cage check's,
@@ -65,7 +74,7 @@ fn counts_of(cage: &Cage) -> CageCounts {
     }
 }
 
-/// Refusal 1.
+/// Refusal 1, save for the crease table.
 fn refuse_bad_shape(cage: &Cage) -> Result<(), Refusal> {
     let h = cage.halfedge_count();
     let good = makes_triangles(h as u64)
@@ -85,12 +94,15 @@ fn refuse_bad_size(cage: &Cage, depth: u64) -> Result<(), Refusal> {
 /// rule may rely on the shape and on all rules before it.
 type Rule = (u32, fn(&Cage) -> Option<usize>);
 
-/// Refusals 3 to 7.
-const TABLE_RULES: [Rule; 5] = [
+/// Refusals 3 to 7, with 1 for the crease table "after 3 and before 4" and 15
+/// "after 6 and before 7".
+const TABLE_RULES: [Rule; 7] = [
     (TWIN, lowest_bad_twin),
+    (SHAPE, creases_of_wrong_length),
     (VERTEX, lowest_bad_vertex),
     (UNUSED, lowest_unused_vertex),
     (EDGE, lowest_bad_edge),
+    (CREASE, lowest_bad_crease),
     (FAN, fan::lowest_vertex_without_one_fan),
 ];
 
@@ -116,6 +128,11 @@ fn lowest_bad_twin(cage: &Cage) -> Option<usize> {
     };
     cage.halfedges()
         .find(|&h| cage.twin_of(h).is_some_and(|twin| is_bad(h, twin)))
+}
+
+/// Place 0 where the crease table has not one number for each edge.
+fn creases_of_wrong_length(cage: &Cage) -> Option<usize> {
+    (cage.creases.len() != cage.edge_count()).then_some(0)
 }
 
 fn lowest_bad_vertex(cage: &Cage) -> Option<usize> {

@@ -1,5 +1,6 @@
 //! Document 01, "One level to the next": the count question as a line of text,
-//! and its answer as lines like the level lister's.
+//! and its answer as lines like the level lister's, with the room of document
+//! 02, §6.
 
 use crate::counts::count_question;
 use crate::refusal::Refusal;
@@ -33,6 +34,5 @@ fn level_lines(h: u64, e: u64, v: u64, depth: u64) -> Result<String, Refusal> {
         let [h, e, v] = [counts.halfedges, counts.edges, counts.vertices].map(|all| all[level]);
         lines += &format!("{level} {h} {e} {} {v}\n", h / 3);
     }
-    lines += &format!("room {} {}\n", counts.halfedge_room, counts.vertex_room);
-    Ok(lines)
+    Ok(lines + &counts.room_line())
 }

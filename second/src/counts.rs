@@ -1,4 +1,5 @@
-//! Document 01, "One level to the next": the count question.
+//! Document 01, "One level to the next": the count question; document 02, §6:
+//! its room gains a third sum.
 
 use crate::cage::DEPTH_LIMIT;
 use crate::refusal::{refuse_if, Refusal, SHAPE};
@@ -8,7 +9,7 @@ use crate::size::{makes_triangles, refuse_above_limits};
 pub const LEVELS: usize = DEPTH_LIMIT as usize + 1;
 
 /// H, E and V of each level, zero past the depth asked, and the room: the sums
-/// of H and of V over levels 0 to the depth.
+/// of H, of V and of E over levels 0 to the depth.
 #[derive(Clone, Copy, Debug, Default, PartialEq, Eq)]
 pub struct LevelCounts {
     pub halfedges: [u64; LEVELS],
@@ -16,6 +17,15 @@ pub struct LevelCounts {
     pub vertices: [u64; LEVELS],
     pub halfedge_room: u64,
     pub vertex_room: u64,
+    pub edge_room: u64,
+}
+
+impl LevelCounts {
+    /// The line that a program prints for the room.
+    pub(crate) fn room_line(&self) -> String {
+        let (h, v, e) = (self.halfedge_room, self.vertex_room, self.edge_room);
+        format!("room {h} {v} {e}\n")
+    }
 }
 
 /// The count question, for any four numbers.
@@ -36,5 +46,6 @@ fn level_counts(mut h: u64, mut e: u64, mut v: u64, depth: u64) -> LevelCounts {
     }
     counts.halfedge_room = counts.halfedges.iter().sum();
     counts.vertex_room = counts.vertices.iter().sum();
+    counts.edge_room = counts.edges.iter().sum();
     counts
 }

@@ -1,11 +1,13 @@
-//! Document 01, "One level to the next": the tables of the new level.
+//! Document 01, "One level to the next": the tables of the new level, with the
+//! creases of document 02, §6.
 
 use crate::cage::{next, previous, Cage, MARKER};
+use crate::creases::next_creases;
 use crate::points::next_points;
 use crate::weight::Weight;
 
-/// The level after one that keeps the rules 3 to 8, and with the paper's weight
-/// 14. The weight has a part in the points alone.
+/// The level after one that keeps the rules 3 to 8 and 15, and with the paper's
+/// weight 14. The weight has a part in the points alone.
 pub(crate) fn next_level(level: &Cage, weight: Weight) -> Cage {
     let old = OldLevel {
         level,
@@ -21,6 +23,7 @@ pub(crate) fn next_level(level: &Cage, weight: Weight) -> Cage {
         vert: table_of_4h(),
         edge: table_of_4h(),
         points: next_points(level, weight),
+        creases: next_creases(level),
     };
     for halfedge in corner_triangles.chain(middle_halfedges) {
         halfedge.append_to(&mut new_level);

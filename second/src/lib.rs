@@ -10,6 +10,7 @@ pub mod check;
 pub mod corners;
 pub mod counter;
 pub mod counts;
+pub mod creases;
 pub mod draw;
 mod fan;
 pub mod file;

@@ -1,5 +1,5 @@
 //! Document 01, "The level lister": from the bytes of a cage file to the
-//! printed lines.
+//! printed lines; document 02, §6: its room line has a third number.
 
 use crate::cage::DEPTH_LIMIT;
 use crate::check::check;
@@ -32,6 +32,5 @@ pub fn level_lines(file: &[u8]) -> Result<String, Refusal> {
         let (f, b) = (h / 3, checked.borders << level);
         lines += &format!("{level} {h} {e} {f} {v} {b}\n");
     }
-    lines += &format!("room {} {}\n", counts.halfedge_room, counts.vertex_room);
-    Ok(lines)
+    Ok(lines + &counts.room_line())
 }

@@ -98,12 +98,12 @@ fn weight_line(valence: usize) -> Option<String> {
     paper_part(valence).map(|part| format!("{valence} {part}\n"))
 }
 
-/// The name, the lengths of the four tables, and the cage check's answer.
+/// The name, the lengths of the five tables, and the cage check's answer.
 fn suite_line(SuiteCage { name, cage, .. }: &SuiteCage) -> String {
-    let (twin, vert) = (cage.twin.len(), cage.vert.len());
-    let (edge, points) = (cage.edge.len(), cage.points.len());
+    let (twin, vert, edge) = (cage.twin.len(), cage.vert.len(), cage.edge.len());
+    let (points, creases) = (cage.points.len(), cage.creases.len());
     let answer = check_answer(cage);
-    format!("{name} {twin} {vert} {edge} {points} {answer}\n")
+    format!("{name} {twin} {vert} {edge} {points} {creases} {answer}\n")
 }
 
 /// Number, place, H, E, F, V and B. On a refusal the counts are zero.
@@ -120,7 +120,7 @@ fn check_answer(cage: &Cage) -> String {
     }
 }
 
-/// The cage file of a named cage.
+/// The cage file of a named cage, which has no place for its creases.
 fn cage_file(name: &str) -> Result<Vec<u8>, Trouble> {
     let unknown = || Trouble::Message(format!("there is no cage named {name}"));
     let cage = cage_named(name).ok_or_else(unknown)?;

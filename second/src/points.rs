@@ -1,15 +1,17 @@
 //! Document 01, "Points": where the vertices of the new level lie; document 02,
-//! §4, "The weight from the paper": inner vertices with the weight chosen; §5,
-//! "Left and right pads": halves round away from zero.
+//! §4, "The weight from the paper": smooth vertices with the weight chosen; §5,
+//! "Left and right pads": halves round away from zero; §6, "Edges that stay
+//! sharp": creases, of which the borders are some.
 
 use std::ops::{Add, AddAssign, Mul};
 
 use crate::cage::Cage;
+use crate::creases::{ends_of_creases, is_on_crease};
 use crate::weight::{paper_part, Weight, WHOLE};
 
-/// The points of the level after one that keeps the rules 3 to 8, and with the
-/// paper's weight 14: first those of the old vertices, then one for each old
-/// edge.
+/// The points of the level after one that keeps the rules 3 to 8 and 15, and
+/// with the paper's weight 14: first those of the old vertices, then one for
+/// each old edge.
 pub(crate) fn next_points(level: &Cage, weight: Weight) -> Vec<i32> {
     let points = [vertex_points(level, weight), edge_points(level)];
     points.concat().into_flattened()
@@ -72,12 +74,13 @@ fn round_halves_away(numerator: i64, denominator: i64) -> i64 {
 
 /// The new point of each old vertex, by vertex number.
 fn vertex_points(level: &Cage, weight: Weight) -> Vec<[i32; 3]> {
-    let around = border_neighbours(level).into_iter().zip(spokes(level));
-    let point = |(vertex, (neighbours, (n, s)))| {
+    let around = creases_at_vertices(level).into_iter().zip(spokes(level));
+    let point = |(vertex, ((creases, far_ends), (n, s)))| {
         let v = Sum::of(level, vertex);
-        match neighbours {
-            Some(neighbours) => border_vertex(v, neighbours),
-            None => inner_vertex(v, n, s, weight),
+        match creases {
+            0 | 1 => smooth_vertex(v, n, s, weight),
+            2 => crease_vertex(v, far_ends),
+            _ => v.over(1),
         }
     };
     around.enumerate().map(point).collect()
@@ -97,28 +100,30 @@ fn edge_point(level: &Cage, h: usize) -> [i32; 3] {
     let point = |vertex| Sum::of(level, vertex);
     let ends = [level.vert_of(h), level.far_end(h)].map(point);
     match level.twin_of(h) {
-        Some(twin) => inner_edge(ends, [h, twin].map(|h| point(level.opposite_corner(h)))),
-        None => border_edge(ends),
+        Some(twin) if !is_on_crease(level, h) => {
+            smooth_edge(ends, [h, twin].map(|h| point(level.opposite_corner(h))))
+        }
+        _ => crease_edge(ends),
     }
 }
 
 /// Rule E.1: (a+b)/2.
-fn border_edge([a, b]: [Sum; 2]) -> [i32; 3] {
+fn crease_edge([a, b]: [Sum; 2]) -> [i32; 3] {
     (a + b).over(2)
 }
 
 /// Rule E.2: (3a+3b+c+d)/8.
-fn inner_edge([a, b]: [Sum; 2], [c, d]: [Sum; 2]) -> [i32; 3] {
+fn smooth_edge([a, b]: [Sum; 2], [c, d]: [Sum; 2]) -> [i32; 3] {
     (3 * a + 3 * b + c + d).over(8)
 }
 
-/// Rule V.2: (6v+a+b)/8, where `neighbours` is a+b.
-fn border_vertex(v: Sum, neighbours: Sum) -> [i32; 3] {
-    (6 * v + neighbours).over(8)
+/// Rule V.2: (6v+a+b)/8, where `far_ends` is a+b.
+fn crease_vertex(v: Sum, far_ends: Sum) -> [i32; 3] {
+    (6 * v + far_ends).over(8)
 }
 
 /// Rule V.3. Short: (5n·v+3s)/(8n). The paper's: ((2^24−n·w)·v + w·s)/2^24.
-fn inner_vertex(v: Sum, n: usize, s: Sum, weight: Weight) -> [i32; 3] {
+fn smooth_vertex(v: Sum, n: usize, s: Sum, weight: Weight) -> [i32; 3] {
     match weight {
         Weight::Short => {
             let n = n as i64;
@@ -132,20 +137,23 @@ fn inner_vertex(v: Sum, n: usize, s: Sum, weight: Weight) -> [i32; 3] {
     }
 }
 
-/// The sum over the far ends of the two border edges of each border vertex, by
-/// vertex number. None for an inner vertex.
-fn border_neighbours(level: &Cage) -> Vec<Option<Sum>> {
-    let mut neighbours = vec![None; level.vertex_count()];
-    for h in level.borders() {
-        let (from, to) = (level.vert_of(h), level.far_end(h));
-        *neighbours[from].get_or_insert_default() += Sum::of(level, to);
-        *neighbours[to].get_or_insert_default() += Sum::of(level, from);
+/// How many creases each vertex has, and the sum over their far ends. A border
+/// vertex has its two border edges at least. A crease counts once at each of its
+/// ends, also where another joins the same two vertices.
+fn creases_at_vertices(level: &Cage) -> Vec<(usize, Sum)> {
+    let mut creases = vec![(0, Sum::default()); level.vertex_count()];
+    for [a, b] in ends_of_creases(level) {
+        for (vertex, far_end) in [(a, b), (b, a)] {
+            let (count, far_ends) = &mut creases[vertex];
+            *count += 1;
+            *far_ends += Sum::of(level, far_end);
+        }
     }
-    neighbours
+    creases
 }
 
 /// How many halfedges leave each vertex, and the sum over their far ends: at an
-/// inner vertex, n and s over all its spokes.
+/// inner vertex, as every smooth one is, n and s over all its spokes.
 fn spokes(level: &Cage) -> Vec<(usize, Sum)> {
     let mut spokes = vec![(0, Sum::default()); level.vertex_count()];
     for h in level.halfedges() {

@@ -17,6 +17,7 @@ pub const FIELD: u32 = 11;
 pub const EXTRA: u32 = 12;
 pub const DOUBLED: u32 = 13;
 pub const VALENCE: u32 = 14;
+pub const CREASE: u32 = 15;
 
 /// The first check that holds, and where.
 #[derive(Clone, Copy, Debug, PartialEq, Eq)]

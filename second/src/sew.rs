@@ -1,5 +1,5 @@
 //! For trying what document 01 says about "The cage": from a list of
-//! triangles to the four tables, and simple changes of a sewn cage.
+//! triangles to the tables, and simple changes of a sewn cage.
 
 use crate::build::{edges_by_lowest_halfedge, Directions};
 use crate::cage::{Cage, MARKER};
@@ -7,8 +7,8 @@ use crate::cage::{Cage, MARKER};
 /// The corners of each triangle.
 pub(crate) type Triangles = Vec<[u32; 3]>;
 
-/// A cage of these triangles with all points at zero. Halfedges that run
-/// between the same two vertices in opposite directions are twins.
+/// A cage of these triangles with all points at zero and no creases. Halfedges
+/// that run between the same two vertices in opposite directions are twins.
 pub(crate) fn sew(triangles: impl IntoIterator<Item = [u32; 3]>) -> Cage {
     let triangles: Triangles = triangles.into_iter().collect();
     let twin = Directions::of(triangles.as_flattened()).twins();
@@ -19,26 +19,30 @@ pub(crate) fn sew(triangles: impl IntoIterator<Item = [u32; 3]>) -> Cage {
 pub(crate) fn sew_with_twins(triangles: Triangles, twin: Vec<u32>) -> Cage {
     let vert = triangles.concat();
     let vertices = vert.iter().max().map_or(0, |&highest| highest as usize + 1);
-    Cage {
+    let cage = Cage {
         edge: edges_by_lowest_halfedge(&twin),
         points: vec![0; 3 * vertices],
         twin,
         vert,
-    }
+        ..Cage::default()
+    };
+    cage.without_creases()
 }
 
-/// The cage with the edge of `h` cut open: two border edges in its stead.
+/// The cage with the edge of `h` cut open: two border edges in its stead. Edges
+/// get other numbers, and no creases.
 pub(crate) fn slit(cage: &Cage, h: usize) -> Cage {
     let mut twin = cage.twin.clone();
     let partner = std::mem::replace(&mut twin[h], MARKER);
     if let Some(cell) = twin.get_mut(partner as usize) {
         *cell = MARKER;
     }
-    Cage {
+    let slit = Cage {
         edge: edges_by_lowest_halfedge(&twin),
         twin,
         ..cage.clone()
-    }
+    };
+    slit.without_creases()
 }
 
 /// Two cages in one, sharing nothing.
@@ -48,6 +52,7 @@ pub(crate) fn beside(first: &Cage, second: &Cage) -> Cage {
         vert: followed_by(&first.vert, &second.vert, first.vertex_count()),
         edge: followed_by(&first.edge, &second.edge, first.edge_count()),
         points: [&first.points[..], &second.points].concat(),
+        creases: [&first.creases[..], &second.creases].concat(),
     }
 }
 

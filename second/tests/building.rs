@@ -15,7 +15,7 @@ type Built = Result<(CageCounts, Vec<u32>, Vec<u32>), Refusal>;
 /// Builds into tables of these lengths. On a refusal they must be as before,
 /// and past H always.
 fn built_into(vert: &[u32], points: &[i32], [twin, edge]: [usize; 2]) -> Built {
-    let before = lendable([twin, 0, edge, 0]);
+    let before = lendable([twin, 0, edge, 0, 0]);
     let mut tables = before.clone();
     let answer = build(vert, points, [&mut tables.twin, &mut tables.edge]);
     let written = if answer.is_ok() { vert.len() } else { 0 };
@@ -235,12 +235,16 @@ fn assert_as_said(name: &str, vert: &[u32], points: &[i32]) {
     } = said(vert);
     let expected = match doubled {
         Some(h) => Err(Refusal::new(13, h)),
-        None => check(&Cage {
-            twin: twin.clone(),
-            vert: vert.to_vec(),
-            edge: edge.clone(),
-            points: points.to_vec(),
-        }),
+        None => {
+            let cage = Cage {
+                twin: twin.clone(),
+                vert: vert.to_vec(),
+                edge: edge.clone(),
+                points: points.to_vec(),
+                ..Cage::default()
+            };
+            check(&cage.without_creases())
+        }
     };
     assert_eq!(
         answer,

@@ -69,6 +69,7 @@ fn p7_two_triangles_at_a_vertex() {
         vert: vec![0, 1, 2, 0, 3, 4],
         edge: (0..6).collect(),
         points: vec![0; 15],
+        creases: vec![0; 6],
     };
     assert_eq!(check(&cage), Err(Refusal::new(7, 0)));
 }
@@ -77,6 +78,7 @@ fn p7_two_triangles_at_a_vertex() {
 fn p8_room() {
     let counts = count_question(12, 6, 4, 2).expect("accepted");
     assert_eq!((counts.halfedge_room, counts.vertex_room), (252, 48));
+    assert_eq!(counts.edge_room, 126);
     assert_eq!(counts.halfedges, [12, 48, 192, 0, 0, 0, 0]);
     assert_eq!(counts.edges, [6, 24, 96, 0, 0, 0, 0]);
     assert_eq!(counts.vertices, [4, 10, 34, 0, 0, 0, 0]);

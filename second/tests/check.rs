@@ -1,4 +1,5 @@
-//! Document 01, "Why a cage is sent back": the cage check over the suite.
+//! Document 01, "Why a cage is sent back", with what document 02, §6 adds to it:
+//! the cage check over the suite.
 
 mod common;
 
@@ -26,7 +27,7 @@ fn the_suite_is_answered_as_foreseen() {
 #[test]
 fn each_refusal_is_foreseen_at_several_places() {
     let suite = suite();
-    for number in 1..=8 {
+    for number in (1..=8).chain([15]) {
         let of_number = suite.iter().filter_map(|entry| match entry.expected {
             Expected::Refused(refusal) if refusal.number == number => Some(refusal.place),
             _ => None,
@@ -87,6 +88,16 @@ fn drawn_table(draw: &mut Draw, length: usize) -> Vec<u32> {
     (0..length).map(cell).collect()
 }
 
+/// A crease table that may be of any length up to H, most numbers 0.
+fn drawn_creases(draw: &mut Draw, h: usize) -> Vec<u8> {
+    let length = draw.between(h as u64 / 2..=h as u64);
+    let number = |_| match draw.place(6) {
+        0 => draw.number() as u8,
+        _ => 0,
+    };
+    (0..length).map(number).collect()
+}
+
 /// Whatever the tables hold, every operation that checks them answers alike.
 #[test]
 fn drawn_tables_are_answered() {
@@ -98,14 +109,17 @@ fn drawn_tables_are_answered() {
             vert: drawn_table(&mut draw, h),
             edge: drawn_table(&mut draw, h),
             points: vec![0; 3 * draw.place(6)],
+            creases: drawn_creases(&mut draw, h),
         };
         let answer = check(&cage);
         assert_eq!(check_any_size(&cage), answer);
-        let written = write_cage_file(&cage, &mut [0; 500]);
-        assert_eq!(written.err(), answer.err());
         for weight in common::WEIGHTS {
-            let refined = common::refined_into(&cage, 1, weight, [100; 4]);
+            let refined = common::refined_into(&cage, 1, weight, [100; 5]);
             assert_eq!(refined.err(), answer.err());
         }
+        // Writing takes no creases.
+        let written = write_cage_file(&cage, &mut [0; 500]);
+        let without = check(&cage.without_creases());
+        assert_eq!(written.err(), without.err());
     }
 }

@@ -96,7 +96,7 @@ fn what_is_no_cage_is_not_written_as_stl() {
 fn a_count_question_is_answered() {
     // Document 01's P8.
     let counted = printed(&["counts"], b"12 6 4 2\n");
-    let lines = "0 12 6 4 4\n1 48 24 16 10\n2 192 96 64 34\nroom 252 48\n";
+    let lines = "0 12 6 4 4\n1 48 24 16 10\n2 192 96 64 34\nroom 252 48 126\n";
     assert_eq!(counted, lines);
     assert_eq!(printed(&["counts"], b"12 6 4 7\n"), "refused 2 0\n");
     assert_eq!(printed(&["counts"], b"12 6 0 007\n"), "refused 1 0\n");
@@ -145,6 +145,7 @@ fn a_cage_without_a_file_is_told() {
 #[test]
 fn the_suite_is_printed() {
     let printed = printed(&["suite"], &[]);
-    assert!(printed.starts_with("triangle 3 3 3 9 0 0 3 3 1 3 3\n"));
-    assert!(printed.contains("\nbow-tie 6 6 6 15 7 0 0 0 0 0 0\n"));
+    assert!(printed.starts_with("triangle 3 3 3 9 3 0 0 3 3 1 3 3\n"));
+    assert!(printed.contains("\nbow-tie 6 6 6 15 6 7 0 0 0 0 0 0\n"));
+    assert!(printed.contains("\ncrease-pillow-length-2 6 6 6 9 2 1 0 0 0 0 0 0\n"));
 }

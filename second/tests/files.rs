@@ -1,4 +1,5 @@
-//! Document 01, "The cage file".
+//! Document 01, "The cage file". Document 02, §6: such files have no place for
+//! creases, and "count as all zeros".
 
 mod common;
 
@@ -13,16 +14,20 @@ use second::suite::{accepted_cages, suite};
 /// The offsets of the triangle's heads, and the file's end.
 const HEADS: [usize; 7] = [0, 9, 18, 27, 36, 75, 78];
 
-/// Reads into tables of these lengths. On a refusal they must be as before.
-fn read_into(file: &[u8], lengths: [usize; 4]) -> Result<(FileCounts, Cage), Refusal> {
-    let before = lendable(lengths);
+/// Reads into tables of these lengths, and a crease table of which no cell may
+/// change. On a refusal no other may either.
+fn read_into(file: &[u8], [twin, vert, edge, points]: [usize; 4]) -> Read {
+    let before = lendable([twin, vert, edge, points, 5]);
     let mut tables = before.clone();
     let answer = read_cage_file(file, &mut lend(&mut tables));
     if answer.is_err() {
         assert_eq!(tables, before);
     }
+    assert_eq!(tables.creases, before.creases);
     answer.map(|counts| (counts, tables))
 }
+
+type Read = Result<(FileCounts, Cage), Refusal>;
 
 fn refusal_of(file: &[u8]) -> Option<Refusal> {
     let answer = read_into(file, [3, 3, 3, 9]).err();
@@ -44,7 +49,9 @@ fn a_cage_written_and_read_is_the_same() {
         let h = cage.halfedge_count();
         let exact = [h, h, h, cage.points.len()];
         let (counts, tables) = read_into(&file_of(&cage), exact).expect(&entry.name);
-        assert_eq!(tables, cage, "{}", entry.name);
+        let cage = cage.without_creases();
+        assert_eq!(tables.without_creases(), cage, "{}", entry.name);
+        assert_eq!(read_cage(&file_of(&cage)), Ok(cage.clone()));
         assert_eq!(counts.halfedges, h as u64);
         assert_eq!(counts.vertices, cage.vertex_count() as u64);
     }
@@ -64,7 +71,7 @@ fn a_file_read_and_written_is_the_same() {
 #[test]
 fn writing_refuses_as_the_check_does_and_leaves_the_buffer() {
     for entry in suite() {
-        if let Err(refusal) = check(&entry.cage) {
+        if let Err(refusal) = check(&entry.cage.clone().without_creases()) {
             let mut file = [7; 100];
             assert_eq!(write_cage_file(&entry.cage, &mut file), Err(refusal));
             assert_eq!(write_cage_file(&entry.cage, &mut []), Err(refusal));
@@ -177,7 +184,7 @@ fn room_comes_last_and_cells_past_it_are_untouched() {
         assert_eq!(read_into(&longer, short).err(), extra);
     }
     let (_, tables) = read_into(&file, [4, 5, 6, 13]).expect("read");
-    let before = lendable([4, 5, 6, 13]);
+    let before = lendable([4, 5, 6, 13, 0]);
     assert_eq!(tables.twin[3..], before.twin[3..]);
     assert_eq!(tables.vert[3..], before.vert[3..]);
     assert_eq!(tables.edge[3..], before.edge[3..]);

@@ -1,13 +1,14 @@
 //! Document 02, §5, "Left and right pads": "halves shall round away from zero",
-//! by each point rule, and the cages of the suite that are there to try it.
+//! by each point rule, with the creases of §6, and the cages of the suite that are
+//! there to try it.
 
 mod common;
 
 use std::collections::{HashMap, HashSet};
 
 use common::{
-    corner_sums, corners, levels_with, refinable, rounded, rounded_by, small_accepted, CornerSum,
-    WEIGHTS,
+    corner_sums, corners, creases_at, levels_with, refinable, rounded, rounded_by, small_accepted,
+    CornerSum, WEIGHTS,
 };
 use second::cage::{Cage, MARKER};
 use second::suite::accepted_cages;
@@ -16,14 +17,16 @@ use second::weight::{paper_part, Weight, VALENCES};
 /// A point rule, by its name in the paper.
 #[derive(Clone, Copy, Debug, PartialEq, Eq)]
 enum Rule {
-    /// A border edge.
+    /// A crease, as every border edge is.
     E1,
-    /// An inner edge.
+    /// A smooth edge.
     E2,
-    /// A border vertex.
+    /// A vertex with two creases.
     V2,
-    /// An inner vertex of so many corners.
+    /// A smooth vertex of so many corners.
     V3(usize),
+    /// A vertex with more than two creases, which the paper has no rule for.
+    StaysPut,
 }
 
 /// A coordinate of the next level before it is rounded.
@@ -37,17 +40,17 @@ struct Exact {
 }
 
 /// All coordinates of the next level, as the rules of document 01, "Points", and
-/// document 02, §4 say.
+/// document 02, §4 and §6 say.
 fn exact_coordinates(level: &Cage, weight: Weight) -> Vec<Exact> {
-    let mut all = exact_border_vertices(level);
-    all.extend(exact_inner_vertices(level, weight));
+    let mut all = exact_crease_vertices(level);
+    all.extend(exact_smooth_vertices(level, weight));
     all.extend(exact_edges(level));
     all
 }
 
-/// "Inner vertex of n corners": with the short weight (5n·v+3s)/(8n), with the
+/// "With fewer it is smooth": with the short weight (5n·v+3s)/(8n), with the
 /// paper's ((2^24−n·w)·v + w·s)/2^24.
-fn exact_inner_vertices(level: &Cage, weight: Weight) -> Vec<Exact> {
+fn exact_smooth_vertices(level: &Cage, weight: Weight) -> Vec<Exact> {
     let exact = |at: CornerSum| {
         let n = at.corners as i64;
         let (own, spoke, denominator) = match weight {
@@ -67,46 +70,51 @@ fn exact_inner_vertices(level: &Cage, weight: Weight) -> Vec<Exact> {
     corner_sums(level).into_iter().map(exact).collect()
 }
 
-/// "Border vertex v with border neighbours a, b": (6v+a+b)/8.
-fn exact_border_vertices(level: &Cage) -> Vec<Exact> {
-    let mut numerators: Vec<i64> = level.points.iter().map(|&v| 6 * i64::from(v)).collect();
-    for h in (0..level.twin.len()).filter(|&h| level.twin[h] == MARKER) {
-        let [from, to, _] = triangle_from(level, h);
+/// "A vertex with two creases follows the border vertex rule along them":
+/// (6v+a+b)/8. "With more than two it stays put."
+fn exact_crease_vertices(level: &Cage) -> Vec<Exact> {
+    let mut exact = Vec::new();
+    for (vertex, far_ends) in creases_at(level).iter().enumerate() {
         for axis in 0..3 {
-            numerators[3 * from + axis] += coordinate(level, to, axis);
-            numerators[3 * to + axis] += coordinate(level, from, axis);
+            let own = coordinate(level, vertex, axis);
+            let at = |&far_end: &usize| coordinate(level, far_end, axis);
+            let (rule, numerator, denominator) = match &far_ends[..] {
+                [] | [_] => continue,
+                [a, b] => (Rule::V2, 6 * own + at(a) + at(b), 8),
+                _ => (Rule::StaysPut, own, 1),
+            };
+            exact.push(Exact {
+                rule,
+                index: 3 * vertex + axis,
+                numerator,
+                denominator,
+            });
         }
     }
-    let corners = corners(level);
-    let all = numerators.into_iter().enumerate();
-    all.filter(|(index, _)| corners[index / 3].1)
-        .map(|(index, numerator)| Exact {
-            rule: Rule::V2,
-            index,
-            numerator,
-            denominator: 8,
-        })
-        .collect()
+    exact
 }
 
-/// "Border edge with ends a, b": (a+b)/2. "Inner edge with opposite corners c,
-/// d": (3a+3b+c+d)/8. Each inner edge is told once, of its lower halfedge.
+/// "Border edge with ends a, b": (a+b)/2, and "an inner crease gets its midpoint".
+/// "Inner edge with opposite corners c, d": (3a+3b+c+d)/8. Each inner edge is told
+/// once, of its lower halfedge.
 fn exact_edges(level: &Cage) -> Vec<Exact> {
     let mut exact = Vec::new();
     for (h, &twin) in level.twin.iter().enumerate() {
         let [a, b, c] = triangle_from(level, h);
-        let first = 3 * (level.vertex_count() + level.edge[h] as usize);
-        for axis in 0..3 {
+        let edge = level.edge[h] as usize;
+        let first = 3 * (level.vertex_count() + edge);
+        let is_told = twin == MARKER || h < twin as usize;
+        for axis in (0..3).filter(|_| is_told) {
             let at = |vertex| coordinate(level, vertex, axis);
             let index = first + axis;
-            if twin == MARKER {
+            if twin == MARKER || level.creases[edge] > 0 {
                 exact.push(Exact {
                     rule: Rule::E1,
                     index,
                     numerator: at(a) + at(b),
                     denominator: 2,
                 });
-            } else if h < twin as usize {
+            } else {
                 let [_, _, d] = triangle_from(level, twin as usize);
                 exact.push(Exact {
                     rule: Rule::E2,
@@ -252,7 +260,7 @@ fn is_beside_a_half(exact: &Exact, parts: i64) -> bool {
 /// that divides its denominator and each of its weights.
 fn step((rule, weight): Tried) -> i64 {
     match (rule, weight) {
-        (Rule::E1 | Rule::E2 | Rule::V2, _) => 1,
+        (Rule::E1 | Rule::E2 | Rule::V2 | Rule::StaysPut, _) => 1,
         (Rule::V3(valence), Weight::Short) if valence % 3 == 0 => 3,
         (Rule::V3(_), Weight::Short) => 1,
         (Rule::V3(valence), Weight::Paper) => {
@@ -282,11 +290,42 @@ fn each_other_rounding_would_show() {
     for (name, tried) in cages_of_halves() {
         let coordinates = tried_coordinates(&accepted[&name], tried);
         for (words, takes_upper) in OTHER_ROUNDINGS {
-            let shows = |exact: &Exact| {
-                let (numerator, denominator) = (exact.numerator, exact.denominator);
-                rounded_by(numerator, denominator, takes_upper) != rounded(numerator, denominator)
-            };
+            let shows = |exact: &Exact| other_rounding_shows(exact, takes_upper);
             assert!(coordinates.iter().any(shows), "{name} {words}");
         }
     }
+}
+
+/// Whether a coordinate is on a crease inside: of an edge that has a number, or of
+/// a vertex that is on no border.
+fn is_on_inner_crease(cage: &Cage, exact: &Exact) -> bool {
+    match (exact.index / 3).checked_sub(cage.vertex_count()) {
+        Some(edge) => cage.creases[edge] > 0,
+        None => !corners(cage)[exact.index / 3].1,
+    }
+}
+
+/// So do the cages whose halves are on creases inside, open and closed: midpoints of
+/// edges, and vertices with two creases.
+#[test]
+fn on_creases_each_other_rounding_would_show() {
+    let accepted = accepted_by_name();
+    for (word, rule) in [("edge", Rule::E1), ("vertex", Rule::V2)] {
+        for kind in ["closed", "open"] {
+            let name = format!("creased-halves-{word}-{kind}");
+            let cage = &accepted[&name];
+            assert_eq!(cage.border_count() == 0, kind == "closed", "{name}");
+            let mut coordinates = tried_coordinates(cage, (rule, Weight::Short));
+            coordinates.retain(|exact| is_on_inner_crease(cage, exact));
+            for (words, takes_upper) in OTHER_ROUNDINGS {
+                let shows = |exact: &Exact| other_rounding_shows(exact, takes_upper);
+                assert!(coordinates.iter().any(shows), "{name} {words}");
+            }
+        }
+    }
+}
+
+fn other_rounding_shows(exact: &Exact, takes_upper: TakesUpper) -> bool {
+    let (numerator, denominator) = (exact.numerator, exact.denominator);
+    rounded_by(numerator, denominator, takes_upper) != rounded(numerator, denominator)
 }

@@ -63,10 +63,12 @@ fn u16_numbers(cells: &[u32]) -> Option<Vec<u8>> {
 fn cages_are_refused_as_the_lister_does() {
     let mut numbers = [0; 9];
     for entry in suite() {
-        let is_read = |file: &Vec<u8>| read_cage(file).is_ok_and(|cage| cage == entry.cage);
-        if let Some(file) = unchecked_file(&entry.cage).filter(is_read) {
+        // A file has no place for creases.
+        let cage = entry.cage.without_creases();
+        let is_read = |file: &Vec<u8>| read_cage(file).is_ok_and(|read| read == cage);
+        if let Some(file) = unchecked_file(&cage).filter(is_read) {
             let refusal = assert_as_listed(&file);
-            assert_eq!(refusal, check(&entry.cage).err(), "{}", entry.name);
+            assert_eq!(refusal, check(&cage).err(), "{}", entry.name);
             numbers[refusal.map_or(0, |refusal| refusal.number as usize)] += 1;
         }
     }

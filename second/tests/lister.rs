@@ -1,4 +1,5 @@
-//! Document 01, "The level lister".
+//! Document 01, "The level lister", with the third number that document 02, §6
+//! gives its room line.
 
 mod common;
 
@@ -13,7 +14,7 @@ const TRIANGLE_LINES: &str = "\
 4 768 408 256 153 48
 5 3072 1584 1024 561 96
 6 12288 6240 4096 2145 192
-room 16383 2928
+room 16383 2928 8382
 ";
 
 #[test]

@@ -1,13 +1,13 @@
 //! Document 01, "One level to the next" and "Points", over the suite, with
-//! either weight.
+//! either weight, with and without creases.
 
 mod common;
 
 use std::collections::HashMap;
 
 use common::{
-    corners, document_pillow, lendable, levels, levels_with, refinable, refined_into, room,
-    small_accepted, triangle, WEIGHTS,
+    corners, document_pillow, lendable, levels, levels_with, refinable, refined_into,
+    refusal_of_the_depth, room, small_accepted, triangle, WEIGHTS,
 };
 use second::cage::{Cage, MARKER};
 use second::check::{check, check_any_size, CageCounts};
@@ -140,6 +140,7 @@ fn points_of_a_disc() {
         vert: vec![0, 1, 3, 1, 2, 3, 2, 0, 3],
         edge: vec![0, 1, 2, 3, 4, 1, 5, 2, 4],
         points: vec![8, 0, 0, 0, 8, 0, 0, 0, 8, 0, 0, 0],
+        creases: vec![0; 6],
     };
     let vertices = [6, 1, 1, 1, 6, 1, 1, 1, 6, 1, 1, 1];
     let edges = [4, 4, 0, 1, 3, 1, 3, 1, 1, 0, 4, 4, 1, 1, 3, 4, 0, 4];
@@ -153,6 +154,7 @@ fn border_neighbours_may_be_the_same_vertex() {
     let cage = Cage {
         twin: vec![MARKER, 4, 3, 2, 1, MARKER],
         edge: vec![0, 1, 2, 2, 1, 3],
+        creases: vec![0; 4],
         ..document_pillow()
     };
     let vertices = [4, 0, 0, 12, 0, 0, 3, 10, 0];
@@ -178,7 +180,8 @@ fn a_level_of_equal_points_stays_where_it_is() {
 fn cells_past_the_room_are_untouched() {
     let counts = count_question(6, 3, 3, 2).expect("accepted");
     let exact = room(&counts);
-    let wider = [exact[0] + 1, exact[1] + 20, exact[2] + 3, exact[3] + 7];
+    let wider = [1, 20, 3, 7, 11];
+    let wider = [0, 1, 2, 3, 4].map(|table| exact[table] + wider[table]);
     for weight in WEIGHTS {
         let refined = |lengths| refined_into(&document_pillow(), 2, weight, lengths);
         let (_, tables) = refined(wider).expect("refined");
@@ -186,10 +189,12 @@ fn cells_past_the_room_are_untouched() {
         let before = lendable(wider);
         assert_eq!(tables.twin[..exact[0]], alone.twin);
         assert_eq!(tables.points[..exact[3]], alone.points);
+        assert_eq!(tables.creases[..exact[4]], alone.creases);
         assert_eq!(tables.twin[exact[0]..], before.twin[exact[0]..]);
         assert_eq!(tables.vert[exact[1]..], before.vert[exact[1]..]);
         assert_eq!(tables.edge[exact[2]..], before.edge[exact[2]..]);
         assert_eq!(tables.points[exact[3]..], before.points[exact[3]..]);
+        assert_eq!(tables.creases[exact[4]..], before.creases[exact[4]..]);
     }
 }
 
@@ -197,22 +202,24 @@ fn cells_past_the_room_are_untouched() {
 fn the_first_short_table_answers() {
     for weight in WEIGHTS {
         let answer = |lengths| refined_into(&document_pillow(), 0, weight, lengths).err();
-        assert_eq!(answer([6, 6, 6, 9]), None);
-        assert_eq!(answer([0, 0, 0, 0]), Some(Refusal::new(9, 1)));
-        assert_eq!(answer([6, 5, 5, 8]), Some(Refusal::new(9, 2)));
-        assert_eq!(answer([6, 6, 5, 8]), Some(Refusal::new(9, 3)));
-        assert_eq!(answer([7, 7, 7, 8]), Some(Refusal::new(9, 4)));
+        assert_eq!(answer([6, 6, 6, 9, 3]), None);
+        assert_eq!(answer([0, 0, 0, 0, 0]), Some(Refusal::new(9, 1)));
+        assert_eq!(answer([6, 5, 5, 8, 2]), Some(Refusal::new(9, 2)));
+        assert_eq!(answer([6, 6, 5, 8, 2]), Some(Refusal::new(9, 3)));
+        assert_eq!(answer([7, 7, 7, 8, 2]), Some(Refusal::new(9, 4)));
+        assert_eq!(answer([7, 7, 7, 10, 2]), Some(Refusal::new(9, 7)));
     }
 }
 
-/// Refusals 1 to 8 come before 9, and a wrong depth before 3 to 8 but after 1.
+/// Refusals 1 to 8 and 15 come before 9. A wrong depth comes before all others but
+/// 1, and before 1 too where it is the length of the crease table that is wrong.
 #[test]
 fn refusals_in_number_order() {
     for entry in suite() {
         if let Err(refusal) = check(&entry.cage) {
-            let answer = |depth| refined_into(&entry.cage, depth, Weight::Short, [0; 4]).err();
+            let answer = |depth| refined_into(&entry.cage, depth, Weight::Short, [0; 5]).err();
             assert_eq!(answer(0), Some(refusal), "{}", entry.name);
-            let with_depth = Refusal::new(refusal.number.min(2), 0);
+            let with_depth = refusal_of_the_depth(&entry.cage);
             assert_eq!(answer(7), Some(with_depth), "{}", entry.name);
         }
     }

@@ -2,7 +2,7 @@
 
 mod common;
 
-use common::{document_triangle, file_of, refined_into, room, triangle, WEIGHTS};
+use common::{document_triangle, file_of, refined_into, room, triangle, ROOM_PLACES, WEIGHTS};
 use second::cage::Cage;
 use second::check::check;
 use second::counts::count_question;
@@ -68,10 +68,10 @@ fn room_exact_and_one_short() {
         let exact = room(&count_question(3, 3, 3, depth).expect("accepted"));
         let answer = |lengths| refined_into(&document_triangle(), depth, weight, lengths);
         assert!(answer(exact).is_ok());
-        for table in 0..4 {
+        for (table, place) in ROOM_PLACES.into_iter().enumerate() {
             let mut short = exact;
             short[table] -= 1;
-            let refusal = Refusal::new(9, table + 1);
+            let refusal = Refusal::new(9, place);
             assert_eq!(answer(short).err(), Some(refusal));
         }
     }

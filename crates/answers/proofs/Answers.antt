@@ -29,7 +29,7 @@ use Rattle.halfedges.proofs.Questions.{limits-kept, count-shape, count-limit, c
 use Rattle.tables.specs.Tables.{Tables, countsOf}
 use Rattle.tables.specs.Check.{returned}
 use Rattle.points.specs.declared.weights.Weight.{Weight}
-use Rattle.points.specs.Operations.{vertices, cageChecks, refineChecks, checkCage, refineVerdict, refineCage}
+use Rattle.points.specs.Operations.{vertices, cageChecks, creasedChecks, refineChecks, checkCreased, refineVerdict, refineCage}
 use Rattle.triangles.specs.Plain.{twinTable}
 use Rattle.triangles.proofs.Opposite.{twins-long}
 use Rattle.building.specs.Building.{buildChecks, buildVerdict, buildCage}
@@ -46,7 +46,7 @@ use Rattle.stl.proofs.FacetLaws.{file-length as stl-length}
 use Rattle.stl.proofs.Verdict.{stl-ready}
 use Rattle.answers.specs.Cells.{cells, lengthCells, levelNumbers, levelCells}
 use Rattle.answers.specs.Internal.Fitting.{Fitting, Sevens}
-use Rattle.answers.proofs.Verdicts.{short-small, checks-small, cage-small, rooms-small}
+use Rattle.answers.proofs.Verdicts.{short-small, cage-small, creased-small, refine-checks-small, rooms-small, lent-small}
 use Rattle.answers.proofs.Small.{Small, fitting-both, fitting-tabulate, fitting-when, given-small, givenAt-small, first-small, guarded-small, joined-small}
 
 -- H, E, F, V and B within the limits, and zeros
@@ -60,16 +60,16 @@ returned-fit twin v l m =
 zeros-fit : Fitting (replicate 5 0)
 zeros-fit = (omega arith, (omega arith, (omega arith, (omega arith, (omega arith, tt)))))
 
-pub check-fits : (c : Tables) (points : List ℤ) → Fitting (cells (checkCage c points))
-unfolding checkCage said cageChecks
-check-fits c points =
-    let s = cage-small c points 0 in (
+pub check-fits : (c : Tables) (creases : List ℕ) (points : List ℤ) → Fitting (cells (checkCreased c creases points))
+unfolding checkCreased said creasedChecks
+check-fits c creases points =
+    let s = creased-small c creases points 0 in (
       s .0,
       (
         s .1,
-        fitting-when (first (cageChecks c points 0)) _ _
+        fitting-when (first (creasedChecks c creases points 0)) _ _
             (λ z.
-            let shape = done-passes _ SHAPE _ refl (first-zero (cageChecks c points 0) z) in
+            let shape = done-passes _ SHAPE _ refl (first-zero (creasedChecks c creases points 0) z) in
             let k = limits-kept (length (c .twin)) (vertices points) 0 (done-passes _ LIMIT _ refl (shape .1) .0) in
             returned-fit (c .twin) (vertices points) (k .0) (k .1))
             zeros-fit,
@@ -119,15 +119,15 @@ record Laid (l : Levels) : Type 0 where
   sevens : Sevens l
   fitting : Fitting (levelNumbers l)
 
-laid : (l : Levels) → Sevens l → Fitting (l .halfedges) → Fitting (l .edges) → Fitting (l .vertices) → (l .«halfedge_room» < 4294967296) × (l .«vertex_room» < 4294967296) → Laid l
+laid : (l : Levels) → Sevens l → Fitting (l .halfedges) → Fitting (l .edges) → Fitting (l .vertices) → (l .«halfedge_room» < 4294967296) × (l .«vertex_room» < 4294967296) × (l .«edge_room» < 4294967296) → Laid l
 laid l s h e v r =
     record {
       sevens = s;
-      fitting = fitting-both (l .halfedges) _ h (fitting-both (l .edges) _ e (fitting-both (l .vertices) (l .«halfedge_room» ∷ l .«vertex_room» ∷ []) v (r .0, (r .1, tt))));
+      fitting = fitting-both (l .halfedges) _ h (fitting-both (l .edges) _ e (fitting-both (l .vertices) (l .«halfedge_room» ∷ l .«vertex_room» ∷ l .«edge_room» ∷ []) v (r .0, (r .1, (r .2, tt)))));
     }
 
 laid-none : Laid noLevels
-laid-none = laid noLevels (record { halfedges = refl; edges = refl; vertices = refl }) zeros zeros zeros (omega arith, omega arith)
+laid-none = laid noLevels (record { halfedges = refl; edges = refl; vertices = refl }) zeros zeros zeros (omega arith, omega arith, omega arith)
   where
     zeros : Fitting (tabulate 7 (λ _. 0))
     zeros = fitting-tabulate 7 (λ _. 0) (λ k l. omega arith)
@@ -157,7 +157,7 @@ laid-levels t depth a d =
     (seven-fit depth (Hs t) (λ k l. omega (arith, at k l .halfedges)))
     (seven-fit depth (Es t) (λ k l. omega (arith, at k l .edges)))
     (seven-fit depth (Vs t) (λ k l. omega (arith, at k l .vertices)))
-    (room-fits depth (Hs t) (λ k l. at k l .halfedges) d, room-fits depth (Vs t) (λ k l. at k l .vertices) d)
+    (room-fits depth (Hs t) (λ k l. at k l .halfedges) d, room-fits depth (Vs t) (λ k l. at k l .vertices) d, room-fits depth (Es t) (λ k l. at k l .edges) d)
 
 laid-count : (t : HalfedgeTable) (depth : ℕ) → Laid (countQuestion t depth .values)
 laid-count t depth =
@@ -187,16 +187,16 @@ counts-fit t depth =
     (first-small _ (given-small (countShape t) SHAPE (omega arith, omega arith), (given-small (aboveLimit (t .halfedges) (t .vertices) depth) LIMIT (omega arith, omega arith), tt)))
     (laid-count t depth)
 
-module _ (w : Weight) (c : Tables) (points : List ℤ) (depth : ℕ) (x : Tables) (xp : List ℤ) where
-  refine-small : Small (refineVerdict w c points depth x xp)
+module _ (w : Weight) (c : Tables) (creases : List ℕ) (points : List ℤ) (depth : ℕ) (x : Tables) (xp : List ℤ) (xc : List ℕ) where
+  refine-small : Small (refineVerdict w c creases points depth x xp xc)
   unfolding refineVerdict
-  refine-small = joined-small (refineChecks w c points depth) _ (checks-small w c points depth) (λ _. rooms-small _ _ x xp)
+  refine-small = joined-small (refineChecks w c creases points depth) _ (refine-checks-small w c creases points depth) (λ _. lent-small (countsOf c (vertices points)) depth x xp xc)
 
-  pub refine-fits : LevelsFit (refineCage w c points depth x xp .answer)
+  pub refine-fits : LevelsFit (refineCage w c creases points depth x xp xc .answer)
   unfolding refineCage said
   refine-fits =
-      levels-fit (refineCage w c points depth x xp .answer) refine-small
-      (laid-when (refineVerdict w c points depth x xp) _ noLevels (laid-count (countsOf c (vertices points)) depth) laid-none)
+      levels-fit (refineCage w c creases points depth x xp xc .answer) refine-small
+      (laid-when (refineVerdict w c creases points depth x xp xc) _ noLevels (laid-count (countsOf c (vertices points)) depth) laid-none)
 
 -- SHAPE or done, and three corners
 pub record CornersFit (s : Said (List ℕ)) : Type 0 where

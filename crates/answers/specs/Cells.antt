@@ -14,17 +14,17 @@ cells s = s .verdict .number ∷ s .verdict .place ∷ s .values
 abbrev pub lengthCells : Said ℕ → List ℕ
 lengthCells s = cells (record { verdict = s .verdict; values = s .values ∷ [] })
 
--- a place as a cell; one that does not fit, which only points of more than 2^32 coordinates have, is told as the largest that does
-abbrev pub placeCell : ℕ → ℕ
-placeCell place = cond (ltb place 4294967296) place 4294967295
+-- a number as a cell; one that does not fit, such as a place in points of more than 2^32 coordinates, is told as the largest that does
+abbrev pub numberCell : ℕ → ℕ
+numberCell n = cond (ltb n 4294967296) n 4294967295
 
 -- number, place and the length of an STL file
 abbrev pub stlCells : Said ℕ → List ℕ
-stlCells s = s .verdict .number ∷ placeCell (s .verdict .place) ∷ s .values ∷ []
+stlCells s = s .verdict .number ∷ numberCell (s .verdict .place) ∷ s .values ∷ []
 
--- "the counts of all seven levels at once, H, E and V of each .., with the room"
+-- "the counts of all seven levels at once, H, E and V of each .., with the room", the sums of H, of V and of E
 abbrev pub levelNumbers : Levels → List ℕ
-levelNumbers l = l .halfedges ++ (l .edges ++ (l .vertices ++ (l .«halfedge_room» ∷ l .«vertex_room» ∷ [])))
+levelNumbers l = l .halfedges ++ (l .edges ++ (l .vertices ++ (l .«halfedge_room» ∷ l .«vertex_room» ∷ l .«edge_room» ∷ [])))
 
 -- number, place and the counts
 abbrev pub levelCells : Said Levels → List ℕ

@@ -9,7 +9,7 @@ ghost use Rattle.halfedges.specs.Corners.{cornered};
 ghost use Rattle.tables.specs.Check.{checked as Check·checked};
 ghost use Rattle.reading.specs.Reading.{reported};
 ghost use Rattle.writing.specs.Writing.{wrote};
-ghost use Rattle.answers.specs.Cells.{cells, lengthCells, placeCell, stlCells, levelCells};
+ghost use Rattle.answers.specs.Cells.{cells, lengthCells, numberCell, stlCells, levelCells};
 ghost use Rattle.answers.specs.Internal.Fitting.{Fitting, Sevens};
 use halfedges::corners::Corners;
 use halfedges::table::Counted;
@@ -70,12 +70,12 @@ pub fn of_writing(written: Writing) -> [u32; 3]
     [number, place, written.length as u32]
 }
 
-// A place as a cell: one that does not fit is told as the largest that does.
-fn place_cell(place: usize) -> u32
-    ensures { λ r. ⌜ r ≡ placeCell place ⌝ }
+// A number as a cell: one that does not fit is told as the largest that does.
+pub fn number_cell(number: usize) -> u32
+    ensures { λ r. ⌜ r ≡ numberCell number ⌝ }
 {
-    if place < 4294967296 {
-        return place as u32;
+    if number < 4294967296 {
+        return number as u32;
     }
     4294967295
 }
@@ -87,7 +87,7 @@ pub fn of_stl(written: Writing) -> [u32; 3]
 {
     let told = written.answer;
     let number = told.number() as u32;
-    let cell = place_cell(told.place());
+    let cell = number_cell(told.place());
     [number, cell, written.length as u32]
 }
 
@@ -107,8 +107,8 @@ fn of_seven(numbers: [usize; 7]) -> [u32; 7]
     ]
 }
 
-// Number, place, H, E and V of the seven levels, and the two rooms.
-pub fn of_counts(counted: Counted) -> [u32; 25]
+// Number, place, H, E and V of the seven levels, and the three rooms.
+pub fn of_counts(counted: Counted) -> [u32; 26]
     requires { ⌜ Sevens (counted .levels) × Fitting (levelCells (Counts·counted counted)) ⌝ }
     ensures { λ r. ⌜ r ≡ levelCells (Counts·counted counted) ⌝ }
 {
@@ -124,6 +124,7 @@ pub fn of_counts(counted: Counted) -> [u32; 25]
     let v = of_seven(vertices);
     let halfedge_room = levels.halfedge_room as u32;
     let vertex_room = levels.vertex_room as u32;
+    let edge_room = levels.edge_room as u32;
     [
         number,
         place,
@@ -150,5 +151,6 @@ pub fn of_counts(counted: Counted) -> [u32; 25]
         v[6],
         halfedge_room,
         vertex_room,
+        edge_room,
     ]
 }

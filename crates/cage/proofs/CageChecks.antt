@@ -1,6 +1,7 @@
--- Each outcome of checks 1 to 8 with 14, by the tests that lead to it: `cage-shape`, `cage-refused`, `valence-refused`, `cage-points`, over
--- the checks in three parts, `checks-then`; with the short weight they are the cage check's, `short-checks`, and so 1 to 7 are done where
--- that is, `tables-accepted`. What rule 14 relies on: `for-valences`. A coordinate out of range, by its sign: `too-low`, `too-high`. Assumes nothing.
+-- Each outcome of checks 1 to 8, by the tests that lead to it: `cage-shape`, `cage-refused`, `cage-points`; of those with 15 and 14
+-- `refine-shape`, `creased-refused`, `valence-refused`, `refine-points`; over the checks in three parts, `checks-then`. With the short
+-- weight there is no 14, `short-checks`. Where the checks are done 1 to 7 are, `tables-accepted`. What rule 14 relies on:
+-- `for-valences`. A coordinate out of range, by its sign: `too-low`, `too-high`. Assumes nothing.
 use Prim.Native.Nat.{ℕ, suc, _-_, _%_}
 use mathlib.Core.Path.{_≡_, refl, sym, _∙_}
 use mathlib.Core.Logic.{_≢_}
@@ -18,17 +19,18 @@ use Rattle.halfedges.proofs.Checks.{done-both, first-stops, first-passes, given
 use Rattle.halfedges.proofs.Questions.{limits-kept}
 use Rattle.tables.specs.Tables.{Tables}
 use Rattle.tables.specs.Rules.{misshapen}
-use Rattle.tables.specs.Check.{tableChecks}
+use Rattle.tables.specs.Check.{rules, checksThen, tableChecks}
 use Rattle.tables.proofs.Accepted.{whole-meaning}
+use Rattle.creases.specs.Check.{creasedRules, creasedTableChecks}
 use Rattle.points.specs.declared.weights.Weight.{Weight}
 use Rattle.points.specs.declared.weights.Weight.the-variants.{Short}
-use Rattle.points.specs.Operations.{vertices, most-coordinate, outOfRange, valenceChecks, cageChecks, refineChecks}
+use Rattle.points.specs.Operations.{vertices, most-coordinate, outOfRange, valenceChecks, checksWith, cageChecks, creasedChecks, refineChecks}
 use Rattle.valences.specs.Internal.Inside.{ForValences}
 
 -- no 14 with the short weight
-pub short-checks : (c : Tables) (points : List ℤ) (depth : ℕ) → refineChecks Short c points depth ≡ cageChecks c points depth
-unfolding refineChecks cageChecks
-short-checks c points depth = refl
+pub short-checks : (c : Tables) (creases : List ℕ) (points : List ℤ) (depth : ℕ) → refineChecks Short c creases points depth ≡ creasedChecks c creases points depth
+unfolding refineChecks creasedChecks
+short-checks c creases points depth = refl
 
 pub for-valences : (c : Tables) (v depth : ℕ) → first (tableChecks c v depth) ≡ DONE → ForValences (c .twin) (c .vert) v
 for-valences c v depth e =
@@ -42,45 +44,82 @@ for-valences c v depth e =
       below = λ h l. m .2 .placed .below h (rw (m .0 .vert-long) at l);
     }
 
-module _ (w : Weight) (c : Tables) (points : List ℤ) (depth : ℕ) where
-  -- 14, and 8
-  abbrev valence : List Verdict
-  valence = valenceChecks w (c .twin) (c .vert) (vertices points)
-
+module _ (three more : List Verdict) (c : Tables) (points : List ℤ) (depth : ℕ) where
+  -- 8
   abbrev last : List Verdict
   last = givenAt (length points) (outOfRange points) POINT ∷ []
 
-  pub cage-shape : length points % 3 ≢ 0 → SHAPE ≡ first (refineChecks w c points depth)
-  unfolding refineChecks first given
-  cage-shape n = simp (ne-eqb (length points % 3) 0 n, or-true (misshapen c))
+  abbrev all : List Verdict
+  all = checksWith three more c points depth
+
+  shape : length points % 3 ≢ 0 → SHAPE ≡ first all
+  unfolding first given
+  shape n = simp (ne-eqb (length points % 3) 0 n, or-true (misshapen c))
 
   module _ (whole : length points % 3 ≡ 0) where
-    -- checks 1 to 7, then 14, and then 8
-    pub checks-then : refineChecks w c points depth ≡ tableChecks c (vertices points) depth ++ (valence ++ last)
-    unfolding refineChecks tableChecks
+    -- 1 and 2 with the rules handed over, then more, and then 8
+    pub checks-then : all ≡ checksThen three c (vertices points) depth ++ (more ++ last)
     checks-then = rw (eq-eqb (length points % 3) 0 whole, or-false-right (misshapen c))
 
     -- v is the first of 1 to 7
-    module _ (v : Verdict) (e : v ≡ first (tableChecks c (vertices points) depth)) where
-      pub cage-refused : v .number ≢ 0 → v ≡ first (refineChecks w c points depth)
-      cage-refused r = rw checks-then (first-stops _ _ v e r)
+    module _ (v : Verdict) (e : v ≡ first (checksThen three c (vertices points) depth)) where
+      refused : v .number ≢ 0 → v ≡ first all
+      refused r = rw checks-then (first-stops _ _ v e r)
 
       module _ (z : v .number ≡ 0) where
-        left : first (valence ++ last) ≡ first (refineChecks w c points depth)
-        left = rw checks-then (sym (first-passes (tableChecks c (vertices points) depth) _ v e z))
+        left : first (more ++ last) ≡ first all
+        left = rw checks-then (sym (first-passes (checksThen three c (vertices points) depth) _ v e z))
 
-        -- u is the first of 14
-        module _ (u : Verdict) (f : u ≡ first valence) where
-          pub valence-refused : u .number ≢ 0 → u ≡ first (refineChecks w c points depth)
-          valence-refused r = first-stops valence last u f r ∙ left
+        -- u is the first of what comes before 8
+        module _ (u : Verdict) (f : u ≡ first more) where
+          more-refused : u .number ≢ 0 → u ≡ first all
+          more-refused r = first-stops more last u f r ∙ left
 
-          pub cage-points : u .number ≡ 0 → givenAt (length points) (outOfRange points) POINT ≡ first (refineChecks w c points depth)
-          cage-points y =
-              given-alone (length points) (outOfRange points) POINT (λ k. omega arith) ∙ sym (first-passes valence last u f y) ∙ left
+          in-points : u .number ≡ 0 → givenAt (length points) (outOfRange points) POINT ≡ first all
+          in-points y = given-alone (length points) (outOfRange points) POINT (λ k. omega arith) ∙ sym (first-passes more last u f y) ∙ left
+
+-- without creases
+module _ (c : Tables) (points : List ℤ) (depth : ℕ) where
+  pub cage-shape : length points % 3 ≢ 0 → SHAPE ≡ first (cageChecks c points depth)
+  unfolding cageChecks
+  cage-shape = shape (rules c (vertices points)) [] c points depth
+
+  module _ (whole : length points % 3 ≡ 0) (v : Verdict) (e : v ≡ first (tableChecks c (vertices points) depth)) where
+    pub cage-refused : v .number ≢ 0 → v ≡ first (cageChecks c points depth)
+    unfolding cageChecks tableChecks
+    cage-refused = refused (rules c (vertices points)) [] c points depth whole v e
+
+    pub cage-points : v .number ≡ 0 → givenAt (length points) (outOfRange points) POINT ≡ first (cageChecks c points depth)
+    unfolding cageChecks tableChecks first
+    cage-points z = in-points (rules c (vertices points)) [] c points depth whole v e z DONE refl refl
+
+-- with creases, and 14
+module _ (w : Weight) (c : Tables) (creases : List ℕ) (points : List ℤ) (depth : ℕ) where
+  abbrev valence : List Verdict
+  valence = valenceChecks w (c .twin) (c .vert) (vertices points)
+
+  pub refine-shape : length points % 3 ≢ 0 → SHAPE ≡ first (refineChecks w c creases points depth)
+  unfolding refineChecks
+  refine-shape = shape (creasedRules c creases (vertices points)) valence c points depth
+
+  module _ (whole : length points % 3 ≡ 0) (v : Verdict) (e : v ≡ first (creasedTableChecks c creases (vertices points) depth)) where
+    pub creased-refused : v .number ≢ 0 → v ≡ first (refineChecks w c creases points depth)
+    unfolding refineChecks creasedTableChecks
+    creased-refused = refused (creasedRules c creases (vertices points)) valence c points depth whole v e
+
+    module _ (z : v .number ≡ 0) (u : Verdict) (f : u ≡ first valence) where
+      pub valence-refused : u .number ≢ 0 → u ≡ first (refineChecks w c creases points depth)
+      unfolding refineChecks creasedTableChecks
+      valence-refused = more-refused (creasedRules c creases (vertices points)) valence c points depth whole v e z u f
+
+      pub refine-points : u .number ≡ 0 → givenAt (length points) (outOfRange points) POINT ≡ first (refineChecks w c creases points depth)
+      unfolding refineChecks creasedTableChecks
+      refine-points = in-points (creasedRules c creases (vertices points)) valence c points depth whole v e z u f
 
 -- so where the cage check is done, 1 to 7 are
 pub tables-accepted : (c : Tables) (points : List ℤ) (depth : ℕ) → length points % 3 ≡ 0 → first (cageChecks c points depth) ≡ DONE → first (tableChecks c (vertices points) depth) ≡ DONE
-tables-accepted c points depth whole e = done-both _ _ (rw (← short-checks c points depth, checks-then Short c points depth whole) at e) .0
+unfolding cageChecks tableChecks
+tables-accepted c points depth whole e = done-both _ _ (rw (checks-then (rules c (vertices points)) [] c points depth whole) at e) .0
 
 pub too-low : (z : ℤ) → ltZ z (negsuc (most-coordinate - 1)) ≡ true → true ≡ ltb most-coordinate (natAbs z)
 too-low (pos n) e = absurd (true≢false (sym e))

@@ -1,4 +1,4 @@
-// The cage check: any four tables, refusals 1 to 8; for refining, 14 too.
+// The cage check: any four tables, refusals 1 to 8; with a crease table 15 too, and for refining 14.
 ghost use mathlib.Core.Path.{_≡_};
 ghost use lib.Dec.{ltb};
 ghost use lib.IntN.{natAbs};
@@ -7,7 +7,8 @@ ghost use Rattle.laws.specs.Below.{any};
 ghost use Rattle.halfedges.specs.Refusals.{POINT, told, givenAt, first};
 ghost use Rattle.tables.specs.Tables.{tables};
 ghost use Rattle.tables.specs.Check.{checked};
-ghost use Rattle.points.specs.Operations.{unshaped as Operations·unshaped, most-coordinate, outOfRange, cageChecks, refineChecks, checkCage};
+ghost use Rattle.points.specs.Operations.{unshaped as Operations·unshaped, most-coordinate, outOfRange, cageChecks, refineChecks, checkCage, checkCreased};
+use creases::check as creased;
 use halfedges::answer::Answer;
 use points::rules::LEAST_COORDINATE;
 use points::rules::MOST_COORDINATE;
@@ -16,7 +17,7 @@ use tables::check;
 use tables::check::Checked;
 use valences::check_valences;
 
-// The cage check, which has no depth.
+// The cage check of a cage without creases, which has no depth.
 pub fn check_cage(twin: &[u32], vert: &[u32], edge: &[u32], points: &[i32]) -> Checked
     ensures { λ r. ⌜ checked r ≡ checkCage (tables (now (twin .entry)) (now (vert .entry)) (now (edge .entry))) (now (points .entry)) ⌝ }
 {
@@ -24,36 +25,62 @@ pub fn check_cage(twin: &[u32], vert: &[u32], edge: &[u32], points: &[i32]) -> C
     check::answered(answer, twin, points.len() / 3)
 }
 
-// Checks 1 to 8 of any tables. No weight is chosen here, so none for which 14 would be given.
+// Checks 1 to 8 of any tables without creases. No weight is chosen here, so none for which 14 would be given.
 pub fn verdict(twin: &[u32], vert: &[u32], edge: &[u32], points: &[i32]) -> Answer
     ensures { λ r.
         ⌜ told r ≡ first (cageChecks (tables (now (twin .entry)) (now (vert .entry)) (now (edge .entry)))
         (now (points .entry)) 0) ⌝ }
 {
-    check_for_refining(twin, vert, edge, points, 0, Weight::Short)
+    if points.len() % 3 != 0 {
+        return Answer::Shape;
+    }
+    let answer = check::check_for_depth(twin, vert, edge, points.len() / 3, 0);
+    if answer.number() != 0 {
+        return answer;
+    }
+    check_points(points)
 }
 
-// Checks 1 to 8 of any tables, where the depth's limit counts too, and 14 by the weight chosen.
+// The cage check with a crease table: checks 1 to 8 and 15.
+pub fn check_creased(
+    twin: &[u32],
+    vert: &[u32],
+    edge: &[u32],
+    points: &[i32],
+    creases: &[u8],
+) -> Checked
+    ensures { λ r.
+        ⌜ checked r ≡ checkCreased (tables (now (twin .entry)) (now (vert .entry)) (now (edge .entry)))
+        (now (creases .entry)) (now (points .entry)) ⌝ }
+{
+    let told = check_for_refining(twin, vert, edge, points, creases, 0, Weight::Short);
+    let vertices = points.len() / 3;
+    check::answered(told, twin, vertices)
+}
+
+// Checks 1 to 8 and 15 of any tables, where the depth's limit counts too, and 14 by the weight chosen.
 pub fn check_for_refining(
     twin: &[u32],
     vert: &[u32],
     edge: &[u32],
     points: &[i32],
+    creases: &[u8],
     depth: usize,
     weight: Weight,
 ) -> Answer
     ensures { λ r.
         ⌜ told r ≡ first (refineChecks weight (tables (now (twin .entry)) (now (vert .entry)) (now (edge .entry)))
-        (now (points .entry)) depth) ⌝ }
+        (now (creases .entry)) (now (points .entry)) depth) ⌝ }
 {
     if points.len() % 3 != 0 {
         return Answer::Shape;
     }
-    let answer = check::check_for_depth(twin, vert, edge, points.len() / 3, depth);
+    let vertices = points.len() / 3;
+    let answer = creased::check_for_depth(twin, vert, edge, creases, vertices, depth);
     if answer.number() != 0 {
         return answer;
     }
-    let valence = check_valences(weight, twin, vert, points.len() / 3);
+    let valence = check_valences(weight, twin, vert, vertices);
     if valence.number() != 0 {
         return valence;
     }

@@ -1,5 +1,5 @@
 -- Document 01, "Cages to try": P1 to P10, one table and one statement (`as-document-01-says`), computed from the definitions.
--- P6 has document 02's figures for the paper's weight too.
+-- P6 has document 02's figures for the paper's weight too, and P8 the sum that document 02 adds.
 use Prim.Native.Nat.{ℕ}
 use mathlib.Core.Path.{_≡_, refl}
 use mathlib.Core.List.{List, [], _∷_, _++_, map}
@@ -14,13 +14,15 @@ use Rattle.tables.specs.Rules.{misshapen, badTwin, badVertex, unused, stranger,
 use Rattle.tables.specs.Fans.{met, joined, notOneFan}
 use Rattle.splitting.specs.NextLevel.{rows, newTwin, newEdge, newVert, nextTwins, nextEdges, nextVerts, level}
 use Rattle.tables.specs.Check.{rules, returned}
+use Rattle.creases.specs.Creases.{noCreases, misshapenCreases, edgeOnBorder, badCrease, nextCreases, creasesAt}
+use Rattle.creases.specs.Check.{creasedRules}
 use Rattle.levels.specs.Refining.{shortTables, filledTables, levelsEndToEnd}
 use Rattle.rounding.specs.Rounding.{round}
 use Rattle.points.specs.declared.weights.Weight.{Weight}
 use Rattle.points.specs.declared.weights.Weight.the-variants.{Short, Paper}
 use Rattle.points.specs.PointRules.{E1, E2, V2, V3}
 use Rattle.points.specs.NextPoints.{corners, spokeEnds, creaseEnds, vertexPoint, edgePoint, newPoint, nextPoints, levelPoints}
-use Rattle.points.specs.Operations.{outOfRange, onBorder, manyCorners, cageChecks, refineChecks, checkCage, refineVerdict, Refined, refineCage}
+use Rattle.points.specs.Operations.{outOfRange, onBorder, manyCorners, cageChecks, refineChecks, checkCage, shortLent, refineVerdict, Refined, refineCage}
 
 -- ---- the cages
 
@@ -47,15 +49,17 @@ corner n = map pos (0 ∷ 0 ∷ 0 ∷ n ∷ 0 ∷ 0 ∷ 0 ∷ n ∷ 0 ∷ [])
 
 -- ---- the questions
 
--- a cage of H halfedges and V vertices refined to depth 1, in lent tables of h and v cells that hold sevens
-abbrev refined : Weight → Tables → List ℤ → ℕ → ℕ → Refined
-refined w c points h v = refineCage w c points 1 (tables (replicate h 7) (replicate h 7) (replicate h 7)) (replicate v (pos 7))
+-- a cage without creases refined to depth 1, in lent tables of h, v and e cells that hold sevens
+abbrev refined : Weight → Tables → List ℤ → ℕ → ℕ → ℕ → Refined
+refined w c points h v e =
+    refineCage w c (noCreases (c .twin)) points 1 (tables (replicate h 7) (replicate h 7) (replicate h 7)) (replicate v (pos 7))
+    (replicate e 7)
 
 abbrev triangleRefined : Refined
-triangleRefined = refined Short triangle (corner 800) 15 27
+triangleRefined = refined Short triangle (corner 800) 15 27 12
 
 abbrev pillowBy : Weight → Refined
-pillowBy w = refined w pillow (corner 16) 30 27
+pillowBy w = refined w pillow (corner 16) 30 27 15
 
 -- vertex 0 and edge 0's point of the pillow's level 1
 abbrev vertexAndEdge : Refined → List ℤ
@@ -66,7 +70,7 @@ abbrev numbersOf : {A : Type 0} → Said A → List ℤ
 numbersOf s = pos (s .verdict .number) ∷ pos (s .verdict .place) ∷ []
 
 abbrev roomOf : Levels → List ℤ
-roomOf l = pos (l .«halfedge_room») ∷ pos (l .«vertex_room») ∷ []
+roomOf l = pos (l .«halfedge_room») ∷ pos (l .«vertex_room») ∷ pos (l .«edge_room») ∷ []
 
 -- ---- the table
 
@@ -96,8 +100,8 @@ cases =
     (map pos (3 ∷ 3 ∷ 0 ∷ 6 ∷ 4 ∷ 0 ∷ 5 ∷ 5 ∷ 0 ∷ 6 ∷ 4 ∷ 0 ∷ []))
     -- P7: refusal 7 at 0
     ∷ P (numbersOf (checkCage twoTriangles (replicate 15 (pos 0)))) (map pos (7 ∷ 0 ∷ []))
-    -- P8: the room for H 12, E 6, V 4, depth 2
-    ∷ P (roomOf (countQuestion (record { halfedges = 12; edges = 6; vertices = 4 }) 2 .values)) (map pos (252 ∷ 48 ∷ []))
+    -- P8: the room for H 12, E 6, V 4, depth 2, with 6 + 24 + 96, the sum of E
+    ∷ P (roomOf (countQuestion (record { halfedges = 12; edges = 6; vertices = 4 }) 2 .values)) (map pos (252 ∷ 48 ∷ 126 ∷ []))
     -- P9: refusal 3 at 0
     ∷ P (numbersOf (checkCage ownTwin (corner 16))) (map pos (3 ∷ 0 ∷ []))
     -- P10: 12/8, −12/8 and −13/8, halves away from zero
@@ -111,5 +115,5 @@ unfolding NEXT PREV above E B given givenAt short first said filled countsAt sev
     misshapen badTwin badVertex unused stranger badEdge met joined notOneFan rows newTwin newEdge newVert nextTwins nextEdges
     nextVerts level rules returned shortTables filledTables levelsEndToEnd round E1 E2 V2 V3 corners spokeEnds creaseEnds
     vertexPoint edgePoint newPoint nextPoints levelPoints outOfRange onBorder manyCorners cageChecks refineChecks checkCage
-    refineVerdict refineCage
+    misshapenCreases edgeOnBorder badCrease nextCreases creasesAt creasedRules shortLent refineVerdict refineCage
 as-document-01-says = refl

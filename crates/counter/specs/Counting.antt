@@ -42,7 +42,7 @@ countLine l k = line (levelWords l k)
 
 -- a line for each level, 0 to the depth, then the room
 unfoldable pub countLines : Levels → ℕ → List ℕ
-countLines l depth = endToEnd (suc depth) (countLine l) ++ roomLine (l .«halfedge_room») (l .«vertex_room»)
+countLines l depth = endToEnd (suc depth) (countLine l) ++ roomLine (l .«halfedge_room») (l .«vertex_room») (l .«edge_room»)
 
 -- the answer to the count question, or its refusal
 unfoldable pub counting : HalfedgeTable → ℕ → Reply

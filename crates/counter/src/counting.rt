@@ -73,7 +73,13 @@ fn put_levels(out: &mut [u8], levels: Levels, depth: usize) -> usize
     ensures { λ r. ⌜ Put (now (out .entry)) 0 1024 (countLines levels depth) (now (out .exit)) r ⌝ }
 {
     let next = put_lines(&mut *out, levels, depth);
-    lines::put_room(&mut *out, next, levels.halfedge_room, levels.vertex_room)
+    lines::put_room(
+        &mut *out,
+        next,
+        levels.halfedge_room,
+        levels.vertex_room,
+        levels.edge_room,
+    )
 }
 
 // The lines of levels 0 to the depth.

@@ -1,2 +1,3 @@
 pub mod Creases
 pub mod Check
+pub mod Internal

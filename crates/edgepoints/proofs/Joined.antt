@@ -100,8 +100,8 @@ module _ (twin vert edge : List ℕ) (n : ℕ) (points l : List ℤ) (edged : Ed
       ends-meet t =
           let la = edged .cornered .below h b in
           let lb = far-below vert n (edged .cornered) h b in
-          let mid = put (6 * n + 3 * cell edge h) (middle whole) m in
-          let only = put-only (6 * n + 3 * cell edge h) (middle whole) m in
+          let mid = put (6 * n + 3 * cell edge h) (middle from to) m in
+          let only = put-only (6 * n + 3 * cell edge h) (middle from to) m in
           let fits : 6 * n ≤ length mid = rw (only .long, long) (omega arith) in
           let met-a = meet n from to mid in
           let second : value (meet n to from met-a) at ≡ cond (eqb (far vert h) v) (met (value met-a at) (value (to .point) k) (value (from .point) k)) (value met-a at) =

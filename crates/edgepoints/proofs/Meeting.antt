@@ -1,5 +1,5 @@
--- A border vertex meets its neighbours one at a time: what its cell holds after none, one and two (`stage`), and that one more
--- takes it to the next stage (`meets`). Assumes nothing.
+-- A vertex with two creases, as one on a border, meets its neighbours along them one at a time: what its cell holds after none, one and
+-- two (`stage`), and that one more takes it to the next stage (`meets`). Assumes nothing.
 use Prim.Native.Nat.{ℕ, zero, suc, _+_, _-_, _*_, _≤_}
 use mathlib.Core.Path.{_≡_, refl, sym, ap, _∙_}
 use mathlib.Core.Bool.{Bool, true, false, cond}

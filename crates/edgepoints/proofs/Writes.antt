@@ -3,7 +3,7 @@
 --     own, step-cell, own-border, own-start, own-finish   what it leaves in the cells of its edge
 --     border-way, inner-way                      the two ways of a step
 --     edged-on, putEdge-same                     a step, wherever the level's points stand
---     corner-is, halfedge-is                     what is read of a halfedge
+--     corner-is, corner-same, corner-near, halfedge-is   what is read of a halfedge
 --     asked-two, asked-three, turns-are          three halfedges in turn
 --     none-among, inner-turns, inner-asked       where none of the three is on a border
 --     triangle-asks, triangle-same               the loop over the triangles
@@ -29,6 +29,7 @@ use Rattle.edgepoints.specs.declared.edges.Corner.{Corner}
 use Rattle.edgepoints.specs.declared.edges.Halfedge.{Halfedge}
 use Rattle.edgepoints.specs.declared.edges.Triangle.{Triangle}
 use Rattle.points.specs.NextPoints.{coordinate, pointOf}
+use Rattle.points.specs.Operations.{InRange}
 use Rattle.points.specs.Internal.Relied.{Cornered}
 use Rattle.points.specs.Internal.Cells.{value, put, Near}
 use Rattle.edgepoints.specs.Internal.Edges.{Spanned, middle, start, finish, meeting, meet, place, borderEdge, inner, innerEdge, AsksInner, stepEdge, Asks, cornerOf, between, halfedgeOf, triangleOf, Readable, borderAmong, inTurn, AskedInTurn, putEdge, Edged, Started}
@@ -44,7 +45,7 @@ module _ (n : ℕ) (a b : Corner) (l : List ℤ) where
 
 -- what halfedge h leaves in the cells of its edge
 unfoldable pub own : ℕ → Halfedge → List ℤ → ℕ → ℤ
-own n h l = cond (eqb (h .twin) marker) (middle h) (inner n h l)
+own n h l = cond (eqb (h .twin) marker) (middle (h .from) (h .to)) (inner n h l)
 
 module _ (n : ℕ) (h : Halfedge) (l : List ℤ) where
   pub border-way : h .twin ≡ marker → stepEdge n h l ≡ borderEdge n h l
@@ -55,7 +56,7 @@ module _ (n : ℕ) (h : Halfedge) (l : List ℤ) where
   unfolding stepEdge
   inner-way t = rw (ne-eqb (h .twin) marker t)
 
-  pub own-border : (k : ℕ) → h .twin ≡ marker → own n h l k ≡ middle h k
+  pub own-border : (k : ℕ) → h .twin ≡ marker → own n h l k ≡ middle (h .from) (h .to) k
   unfolding own
   own-border k t = rw (eq-eqb (h .twin) marker t)
 
@@ -83,7 +84,7 @@ module _ (n : ℕ) (h : Halfedge) (l : List ℤ) where
   unfolding stepEdge innerEdge borderEdge
   step-only to la lb le =
       cond-keeps (Only (3 * n) to l) (eqb (h .twin) marker)
-      (λ _. only-on (only-on (edge-cells (middle h)) (vertex-cells (h .from) (h .to) la _)) (vertex-cells (h .to) (h .from) lb _))
+      (λ _. only-on (only-on (edge-cells (middle (h .from) (h .to))) (vertex-cells (h .from) (h .to) la _)) (vertex-cells (h .to) (h .from) lb _))
       (λ _. edge-cells (inner n h l))
     where
       edge-cells : (g : ℕ → ℤ) → Only (3 * n) to l (put (place n h) g l)
@@ -95,6 +96,16 @@ module _ (n : ℕ) (h : Halfedge) (l : List ℤ) where
 -- the point of a corner that is read
 pub corner-is : {vert : List ℕ} {n : ℕ} {points l : List ℤ} → Cornered vert n → Holds n points l → (h k : ℕ) → h < length vert → k < 3 → value (pointOf l (cell vert h)) k ≡ coordinate points k (cell vert h)
 corner-is {vert} {n} {points} {l} cornered holds h k b lk = pointOf-is l (cell vert h) k lk ∙ holds .same (cell vert h) k (cornered .below h b) lk
+
+-- the same corner, wherever the level's points stand
+pub corner-same : {vert : List ℕ} {n : ℕ} {points l : List ℤ} → Cornered vert n → Holds n points l → (h : ℕ) → h < length vert → cornerOf vert l h ≡ cornerOf vert points h
+corner-same {vert} {n} {points} {l} cornered holds h b = λ i. record { vertex = cell vert h; point = point-same holds (cell vert h) (cornered .below h b) i }
+
+-- it can be read, and is in range
+pub corner-near : {vert : List ℕ} {n : ℕ} (l : List ℤ) → Cornered vert n → 3 * n ≤ length l → InRange (take (3 * n) l) → (h : ℕ) → h < length vert → (3 * cell vert h + 2 < length l) × Near (pointOf l (cell vert h))
+corner-near {vert} {n} l cornered room range h b =
+    let lv = cornered .below h b in
+    (omega arith, near-of l (cell vert h) (λ k lk. rw (holds-own n l .same (cell vert h) k lv lk) (any-in-range (take (3 * n) l) range (3 * cell vert h + k))))
 
 module _ (twin vert edge : List ℕ) (n : ℕ) where
   -- a table that differs past the level's points alone
@@ -112,10 +123,7 @@ module _ (twin vert edge : List ℕ) (n : ℕ) where
   module _ {l : List ℤ} (g : Edged twin vert edge n l) where
     -- a corner's point can be read
     near : (h : ℕ) → h < length vert → (3 * cell vert h + 2 < length l) × Near (pointOf l (cell vert h))
-    near h b =
-        let room = g .room h b in
-        let lv = g .cornered .below h b in
-        (omega arith, near-of l (cell vert h) (λ k lk. rw (holds-own n l .same (cell vert h) k lv lk) (any-in-range (take (3 * n) l) (g .in-range) (3 * cell vert h + k))))
+    near h b = let room = g .room h b in corner-near l (g .cornered) (omega arith) (g .in-range) h b
 
     pub spanned : (h : ℕ) → h < length vert → Spanned (halfedgeOf twin vert edge l h)
     spanned h b =
@@ -130,12 +138,10 @@ module _ (twin vert edge : List ℕ) (n : ℕ) where
 
     -- the same halfedge, wherever the level's points stand
     module _ {points : List ℤ} (holds : Holds n points l) where
-      corner-same : (h : ℕ) → h < length vert → cornerOf vert l h ≡ cornerOf vert points h
-      corner-same h b = λ i. record { vertex = cell vert h; point = point-same holds (cell vert h) (g .cornered .below h b) i }
-
       halfedge-same : (h : ℕ) → h < length vert → halfedgeOf twin vert edge l h ≡ halfedgeOf twin vert edge points h
       halfedge-same h b =
-          λ i. between twin edge h (corner-same h b i) (corner-same (NEXT h) (next-below (g .cornered .whole) b) i) (corner-same (PREV h) (prev-below (g .cornered .whole) b) i)
+          let same = corner-same (g .cornered) holds in
+          λ i. between twin edge h (same h b i) (same (NEXT h) (next-below (g .cornered .whole) b) i) (same (PREV h) (prev-below (g .cornered .whole) b) i)
 
       pub putEdge-same : (h : ℕ) → h < length vert → (m : List ℤ) → putEdge twin vert edge n l h m ≡ putEdge twin vert edge n points h m
       unfolding putEdge

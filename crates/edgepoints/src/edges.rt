@@ -1,10 +1,10 @@
-// The last pass over a level: every edge's point, by a part from each of its two halfedges, and the border's vertices.
+// The fourth pass over a level: every edge's point, by a part from each of its two halfedges, and the border's vertices.
 ghost use mathlib.Core.Path.{_≡_};
 ghost use Prim.Native.Nat.{ℕ, _+_, _*_, _<_};
 ghost use lib.ListN.{length};
 ghost use Rattle.laws.specs.Internal.Steps.{steps};
 ghost use Rattle.halfedges.specs.Cage.{cell};
-ghost use Rattle.points.specs.Internal.Cells.{put};
+ghost use Rattle.points.specs.Internal.Cells.{put, Near};
 ghost use Rattle.edgepoints.specs.Internal.Edges.{Spanned, AsksFinish, AsksMeet, AsksInner, Asks, Readable, AskedInTurn, Edged, Started};
 ghost use Rattle.edgepoints.specs.Internal.Edges.{middle, start, finish, meeting, meet, borderEdge, innerEdge, stepEdge, inTurn, putEdge};
 ghost use Rattle.edgepoints.specs.Internal.Edges.{cornerOf, between, triangleOf, borderAmong};
@@ -17,9 +17,9 @@ use points::rules::finished_edge;
 use points::rules::started_edge;
 
 // A corner of a triangle: its vertex, and where that is.
-struct Corner {
-    vertex: u32,
-    point: [i32; 3],
+pub struct Corner {
+    pub vertex: u32,
+    pub point: [i32; 3],
 }
 
 // What the pass takes of one halfedge: its number, its cells of TWIN and EDGE, its two ends and the corner opposite to it.
@@ -81,28 +81,28 @@ fn finish_edge(points: &mut [i32], to: usize, halfedge: Halfedge)
     put_point(&mut *points, to, x, y, z);
 }
 
-// Coordinate k of the middle of a border edge.
-fn middle_at(halfedge: Halfedge, k: usize) -> i32
-    requires { ⌜ (Spanned halfedge) × (k < 3) ⌝ }
-    ensures { λ r. ⌜ r ≡ middle halfedge k ⌝ }
+// Coordinate k of the middle between a corner and its neighbour.
+fn middle_at(corner: Corner, neighbour: Corner, k: usize) -> i32
+    requires { ⌜ (Near (corner .point)) × (Near (neighbour .point)) × (k < 3) ⌝ }
+    ensures { λ r. ⌜ r ≡ middle corner neighbour k ⌝ }
 {
-    let a = halfedge.from.point;
-    let b = halfedge.to.point;
+    let a = corner.point;
+    let b = neighbour.point;
     border_edge(a[k], b[k])
 }
 
-// The middle of a border edge.
-fn put_middle(points: &mut [i32], to: usize, halfedge: Halfedge)
-    requires { ⌜ (Spanned halfedge) × (to + 2 < length (now points)) ⌝ }
-    ensures { λ _. ⌜ now (points .exit) ≡ put to (middle halfedge) (now (points .entry)) ⌝ }
+// The middle between a corner and its neighbour: the point of a border edge, and of any crease.
+pub fn put_middle(points: &mut [i32], to: usize, corner: Corner, neighbour: Corner)
+    requires { ⌜ AsksMeet corner neighbour to (now points) ⌝ }
+    ensures { λ _. ⌜ now (points .exit) ≡ put to (middle corner neighbour) (now (points .entry)) ⌝ }
 {
-    let x = middle_at(halfedge, 0);
-    let y = middle_at(halfedge, 1);
-    let z = middle_at(halfedge, 2);
+    let x = middle_at(corner, neighbour, 0);
+    let y = middle_at(corner, neighbour, 1);
+    let z = middle_at(corner, neighbour, 2);
     put_point(&mut *points, to, x, y, z);
 }
 
-// Coordinate k of the new place of a border vertex that meets a neighbour.
+// Coordinate k of the new place of a vertex with two creases, as those on a border, that meets a neighbour.
 fn met_at(points: &[i32], to: usize, corner: Corner, neighbour: Corner, k: usize) -> i32
     requires { ⌜ (AsksMeet corner neighbour to (now points)) × (k < 3) ⌝ }
     ensures { λ r. ⌜ r ≡ meeting corner neighbour (now (points .entry)) to k ⌝ }
@@ -112,8 +112,8 @@ fn met_at(points: &[i32], to: usize, corner: Corner, neighbour: Corner, k: usize
     border_vertex(points[to + k], v[k], a[k])
 }
 
-// A border vertex meets a neighbour.
-fn meet_one(points: &mut [i32], vertices: usize, corner: Corner, neighbour: Corner)
+// A vertex with two creases meets a neighbour along one of them.
+pub fn meet_one(points: &mut [i32], vertices: usize, corner: Corner, neighbour: Corner)
     requires { ⌜ AsksMeet corner neighbour (3 * vertices + 3 * corner .vertex) (now points) ⌝ }
     ensures { λ _. ⌜ now (points .exit) ≡ meet vertices corner neighbour (now (points .entry)) ⌝ }
 {
@@ -134,7 +134,8 @@ fn put_border(points: &mut [i32], vertices: usize, halfedge: Halfedge)
     put_middle(
         &mut *points,
         6 * vertices + 3 * halfedge.edge as usize,
-        halfedge,
+        a,
+        b,
     );
     meet_one(&mut *points, vertices, a, b);
     meet_one(&mut *points, vertices, b, a);
@@ -166,7 +167,7 @@ fn step_edge(points: &mut [i32], vertices: usize, halfedge: Halfedge)
 }
 
 // The corner that a halfedge leaves.
-fn read_corner(vert: &[u32], points: &[i32], halfedge: usize) -> Corner
+pub fn read_corner(vert: &[u32], points: &[i32], halfedge: usize) -> Corner
     requires { ⌜ (halfedge < length (now vert)) × (3 * cell (now vert) halfedge + 2 < length (now points)) ⌝ }
     ensures { λ r. ⌜ r ≡ cornerOf (now (vert .entry)) (now (points .entry)) halfedge ⌝ }
 {

@@ -1,13 +1,14 @@
 -- Lists end to end. Assumes nothing.
 --     length-endToEnd, length-multiples     how long they are
 --     last-part, one-more                   in front of a table the last one is a part, and one more is written straight after it
+--     endToEnd-alike                        of the same lists
 --     starts-within, starts-before          a table that starts with cells is as long, and starts with the first of them
 --     part-of                               where one of the lists stands in a table that starts with them
 use Prim.Native.Nat.{ℕ, zero, suc, _+_, _*_, _≤_, _<_}
-use mathlib.Core.Path.{_≡_, refl, sym, ap, _∙_}
+use mathlib.Core.Path.{_≡_, refl, sym, ap, ap₂, _∙_}
 use mathlib.Core.List.{List, _++_, append-assoc}
 use native.Mathlib.Decide.{ℕ-discrete}
-use native.Mathlib.Nat.{mul-zero, mul-add, not-suc-le-zero}
+use native.Mathlib.Nat.{le-refl, mul-zero, mul-add, not-suc-le-zero}
 use native.Mathlib.Omega.{arith}
 use lib.ListN.{length, take, drop, length-append, length-take}
 use lib.Seq.{take-add, take-take, take-append-seam, drop-append-seam, drop-append-add, drop-drop}
@@ -39,6 +40,10 @@ module _ {A : Type 0} where
   pub length-multiples : (m : ℕ) (f : ℕ → List A) (g : ℕ → ℕ) (n : ℕ) → ((i : ℕ) → i < n → length (f i) ≡ m * g i) → length (endToEnd n f) ≡ m * sum n g
   length-multiples m f g zero long = sym (mul-zero m)
   length-multiples m f g (suc n) long = length-append (endToEnd n f) (f n) ∙ rw (length-multiples m f g n (λ i l. long i (omega arith)), long n (omega arith)) (sym (mul-add m (sum n g) (g n)))
+
+  pub endToEnd-alike : (f g : ℕ → List A) (n : ℕ) → ((k : ℕ) → k < n → f k ≡ g k) → endToEnd n f ≡ endToEnd n g
+  endToEnd-alike f g zero e = refl
+  endToEnd-alike f g (suc n) e = ap₂ _++_ (endToEnd-alike f g n (λ k l. e k (omega arith))) (e n (le-refl _))
 
   pub starts-within : (cells table : List A) → take (length cells) table ≡ cells → length cells ≤ length table
   starts-within cells table e = omega (arith, ap length e, length-take (length cells) table)

@@ -1,13 +1,14 @@
 -- The lines of the levels: `level-put`, `level-line` of one, `lines-alike` by other words for B, and of B doubled level by level `few-doubled`,
 -- `doubled-next`. Assumes nothing.
-use Prim.Native.Nat.{ℕ, zero, suc, _+_, _*_, _^_, _≤_, _<_}
-use mathlib.Core.Path.{_≡_, refl, sym, subst, ap₂}
+use Prim.Native.Nat.{ℕ, _+_, _*_, _^_, _≤_, _<_}
+use mathlib.Core.Path.{_≡_, sym, subst, ap₂}
 use mathlib.Core.List.{List, [], _∷_, _++_}
-use native.Mathlib.Nat.{le-refl, mul-le-mul, mul-assoc, pow-succ', pow-le-pow-right}
+use native.Mathlib.Nat.{mul-le-mul, mul-assoc, pow-succ', pow-le-pow-right}
 use native.Mathlib.Numerals.{add-one}
 use native.Mathlib.Omega.{arith}
 use lib.ListN.{length}
 use Rattle.laws.specs.Below.{endToEnd}
+use Rattle.laws.proofs.EndToEnd.{endToEnd-alike}
 use Rattle.halfedges.specs.declared.table.Levels.{Levels}
 use Rattle.halfedges.specs.Cage.{most-halfedges, F}
 use Rattle.text.specs.declared.lines.LevelCounts.{LevelCounts}
@@ -36,5 +37,4 @@ level-line {a} {b} {at} {m} {next} l bs i k d e f p = subst (λ t. Put a at m t 
 
 -- lines by other words for B
 pub lines-alike : (l : Levels) (bs cs : ℕ → ℕ) (n : ℕ) → ((k : ℕ) → k < n → bs k ≡ cs k) → endToEnd n (levelLine l bs) ≡ endToEnd n (levelLine l cs)
-lines-alike l bs cs zero e = refl
-lines-alike l bs cs (suc n) e = ap₂ _++_ (lines-alike l bs cs n (λ k h. e k (omega arith))) (rw (e n (le-refl _)))
+lines-alike l bs cs n e = endToEnd-alike (levelLine l bs) (levelLine l cs) n (λ k h. rw (e k h))

@@ -83,7 +83,7 @@ module _ (f : List ℕ) (r : Checked) (e : checked r ≡ checkFile f) where
     lines-listed =
         let l = levels (counts r) most-depth in
         let bs = levelBorders (countsOf (cageIn f) (vertices (pointsIn f))) (cageIn f) in
-        ap (λ t. t ++ roomLine (l .«halfedge_room») (l .«vertex_room»)) (lines-alike l (doubled (r .borders)) bs 7 (λ k h. doubled-borders k (omega arith)))
+        ap (λ t. t ++ roomLine (l .«halfedge_room») (l .«vertex_room») (l .«edge_room»)) (lines-alike l (doubled (r .borders)) bs 7 (λ k h. doubled-borders k (omega arith)))
         ∙ ap (λ t. levelLines (levels t most-depth) bs) counted
 
   pub file-listed : checkedListing r ≡ listing f

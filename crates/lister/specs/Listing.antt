@@ -18,9 +18,9 @@ use Rattle.intake.specs.Intake.{fileReply}
 abbrev pub levelLine : Levels → (ℕ → ℕ) → ℕ → List ℕ
 levelLine l borders k = line (levelWords l k ++ (decimal (borders k) ∷ []))
 
--- "prints seven lines .. then `room`, the sum of H and the sum of V for depth 6"
+-- "prints seven lines .. then `room`, the sum of H and the sum of V for depth 6", and of E
 unfoldable pub levelLines : Levels → (ℕ → ℕ) → List ℕ
-levelLines l borders = endToEnd 7 (levelLine l borders) ++ roomLine (l .«halfedge_room») (l .«vertex_room»)
+levelLines l borders = endToEnd 7 (levelLine l borders) ++ roomLine (l .«halfedge_room») (l .«vertex_room») (l .«edge_room»)
 
 -- "B, the border edges, is the number without a twin", in the table of level k
 unfoldable pub levelBorders : HalfedgeTable → Tables → ℕ → ℕ

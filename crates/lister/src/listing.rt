@@ -71,7 +71,13 @@ fn put_levels(out: &mut [u8], levels: Levels, borders: usize) -> usize
     ensures { λ r. ⌜ Put (now (out .entry)) 0 1024 (levelLines levels (doubled borders)) (now (out .exit)) r ⌝ }
 {
     let next = put_lines(&mut *out, levels, borders);
-    lines::put_room(&mut *out, next, levels.halfedge_room, levels.vertex_room)
+    lines::put_room(
+        &mut *out,
+        next,
+        levels.halfedge_room,
+        levels.vertex_room,
+        levels.edge_room,
+    )
 }
 
 // The seven levels' lines; the border edges double from one to the next.

@@ -11,10 +11,11 @@ use Rattle.halfedges.specs.Refusals.{SHAPE, LIMIT, POINT, given, givenAt, first
 use Rattle.halfedges.specs.Counts.{aboveLimit}
 use Rattle.tables.specs.Tables.{Tables}
 use Rattle.tables.specs.Rules.{misshapen}
-use Rattle.tables.specs.Check.{rules, returned}
+use Rattle.tables.specs.Check.{returned}
+use Rattle.creases.specs.Check.{creasedRules}
 use Rattle.points.specs.declared.weights.Weight.{Weight}
 use Rattle.points.specs.declared.weights.Weight.the-variants.{Short}
-use Rattle.points.specs.Operations.{vertices, most-coordinate, outOfRange, valenceChecks, refineChecks, checkCage}
+use Rattle.points.specs.Operations.{vertices, most-coordinate, outOfRange, valenceChecks, refineChecks, checkCreased}
 use Rattle.cage.proofs.CageChecks.{short-checks}
 use Rattle.mirror.specs.Mirror.{mirrored}
 use Rattle.mirror.proofs.Turned.{turned-size}
@@ -30,20 +31,20 @@ module _ (k : ℕ) (points : List ℤ) where
   pub vertices-mirrored : vertices (mirrored k points) ≡ vertices points
   vertices-mirrored = ap (λ n. n / 3) (length-mirrored k points)
 
-  module _ (c : Tables) where
-    pub checks-mirrored : (w : Weight) (depth : ℕ) → refineChecks w c (mirrored k points) depth ≡ refineChecks w c points depth
+  module _ (c : Tables) (creases : List ℕ) where
+    pub checks-mirrored : (w : Weight) (depth : ℕ) → refineChecks w c creases (mirrored k points) depth ≡ refineChecks w c creases points depth
     unfolding refineChecks
     checks-mirrored w depth =
         ap₂
         (λ n bad.
         given (misshapen c || not (eqb (n % 3) 0)) SHAPE
         ∷ given (aboveLimit (length (c .twin)) (n / 3) depth) LIMIT
-        ∷ (rules c (n / 3) ++ (valenceChecks w (c .twin) (c .vert) (n / 3) ++ (givenAt n bad POINT ∷ []))))
+        ∷ (creasedRules c creases (n / 3) ++ (valenceChecks w (c .twin) (c .vert) (n / 3) ++ (givenAt n bad POINT ∷ []))))
         (length-mirrored k points)
         (fun-ext out-of-range-mirrored)
 
-    pub check-mirrored : checkCage c (mirrored k points) ≡ checkCage c points
-    unfolding checkCage
+    pub check-mirrored : checkCreased c creases (mirrored k points) ≡ checkCreased c creases points
+    unfolding checkCreased
     check-mirrored =
-        rw (← short-checks c (mirrored k points) 0, ← short-checks c points 0)
+        rw (← short-checks c creases (mirrored k points) 0, ← short-checks c creases points 0)
         (ap₂ (λ checks v. said (first checks) (returned (c .twin) v) (replicate 5 0)) (checks-mirrored Short 0) vertices-mirrored)

@@ -23,10 +23,12 @@ mirrored k points = tabulate (length points) (λ i. turned (eqb (i % 3) k) (getD
 abbrev pub written : Refined → ℕ
 written r = r .answer .values .«vertex_room»
 
--- refining a cage into lent tables left `left`, and refining its mirror image "with the same tables and the same weight" left `right`
+-- refining a cage into lent tables left `left`, and refining its mirror image "with the same tables and the same weight", and the same
+-- creases, left `right`
 pub record Pads (k : ℕ) (lentPoints : List ℤ) (left right : Refined) : Type 0 where
   pub answer : right .answer ≡ left .answer
   pub tables : right .lent ≡ left .lent
+  pub creases : right .creases ≡ left .creases
   pub long : length (right .points) ≡ length (left .points)
   -- "negates every x at every depth"
   pub negated : k < 3 → (u : ℕ) → u < written left → coordinate (right .points) k u ≡ negℤ (coordinate (left .points) k u)

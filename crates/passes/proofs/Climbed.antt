@@ -24,12 +24,13 @@ use Rattle.halfedges.proofs.Growth.{counts-more, levels-at-most}
 use Rattle.tables.specs.Tables.{Tables}
 use Rattle.splitting.specs.NextLevel.{newVert, nextVerts, level}
 use Rattle.levels.specs.Refining.{levelsEndToEnd}
+use Rattle.creases.specs.Creases.{creasesAt}
 use Rattle.splitting.proofs.Rows.{at-across, at-back, at-middle}
 use Rattle.points.specs.declared.weights.Weight.{Weight}
 use Rattle.points.specs.NextPoints.{levelPoints}
-use Rattle.points.specs.Internal.Relied.{Fourfold}
+use Rattle.points.specs.Internal.Relied.{Relied, Fourfold}
 use Rattle.passes.specs.declared.level.Level.{Level}
-use Rattle.passes.specs.Internal.Levels.{pointsAt, nextEnd, withNext, Ready, tablesAt, withNextAt, ReadyLevel, cageLevel, nextLevel, Climbs, cageOf, cageCorners, pointLevels, withLevels, ReadyLevels}
+use Rattle.passes.specs.Internal.Levels.{pointsAt, nextEnd, withNext, Ready, tablesAt, withNextAt, ReadyLevel, cageOf, ReadyCount, ReadyCreased, cageLevel, nextLevel, Climbs, cageCorners, pointLevels, withLevels, ReadyLevels}
 use Rattle.points.proofs.Range.{level-points-long, levels-in-range}
 
 -- VERT of a level's next one: the rows of document 01
@@ -66,25 +67,26 @@ beforeAt t zero = 0
 beforeAt t (suc d) = Hs t d
 
 -- the loop stands at level d: which level that is, and the table so far
-pub record Stands (w : Weight) (t : HalfedgeTable) (depth : ℕ) (lent : Tables) (points : List ℤ) (d : ℕ) (x : Level) (q : List ℤ) : Type 0 where
+pub record Stands (w : Weight) (t : HalfedgeTable) (depth : ℕ) (lent : Tables) (creases : List ℕ) (points : List ℤ) (d : ℕ) (x : Level) (q : List ℤ) : Type 0 where
+  pub is-number : x .number ≡ d
   pub is-left : d + x .left ≡ depth
   pub is-before : x .before ≡ beforeAt t d
   pub is-counts : x .counts ≡ countsAt t d
   pub is-start : x .start ≡ sum d (Hs t)
   pub is-at : x .at ≡ 3 * sum d (Vs t)
-  pub is-table : q ≡ withLevels w t d lent points
+  pub is-table : q ≡ withLevels w t d lent creases points
 
-module _ (w : Weight) (t : HalfedgeTable) (depth : ℕ) (lent : Tables) (points : List ℤ) (ready : ReadyLevels t depth lent points) where
+module _ (w : Weight) (t : HalfedgeTable) (depth : ℕ) (lent : Tables) (creases : List ℕ) (points : List ℤ) (ready : ReadyLevels t depth lent creases points) where
   abbrev c : Tables
   c = cageOf t lent
 
   -- the points of level d
   abbrev P : ℕ → List ℤ
-  P = levelPoints w t c (take (3 * t .vertices) points)
+  P = levelPoints w t c creases (take (3 * t .vertices) points)
 
   -- the table with levels 0 to d
   abbrev Q : ℕ → List ℤ
-  Q d = withLevels w t d lent points
+  Q d = withLevels w t d lent creases points
 
   -- room for the first n levels
   room-for : (n : ℕ) → n ≤ suc depth → 3 * sum n (Vs t) ≤ length points
@@ -95,54 +97,54 @@ module _ (w : Weight) (t : HalfedgeTable) (depth : ℕ) (lent : Tables) (points 
   cage-long = length-take-le (3 * t .vertices) points (omega (arith, room-for 1 (omega arith)))
 
   level-long : (d : ℕ) → length (P d) ≡ 3 * Vs t d
-  level-long = level-points-long w t c (take (3 * t .vertices) points) cage-long
+  level-long = level-points-long w t c creases (take (3 * t .vertices) points) cage-long
 
   -- where level n's points start
-  levels-long : (n : ℕ) → length (pointLevels w t lent points n) ≡ 3 * sum n (Vs t)
+  levels-long : (n : ℕ) → length (pointLevels w t lent creases points n) ≡ 3 * sum n (Vs t)
   levels-long n = length-multiples 3 P (Vs t) n (λ i _. level-long i)
 
   table-long : (d : ℕ) → d ≤ depth → length (Q d) ≡ length points
   unfolding withLevels
   table-long d l =
-      length-append (pointLevels w t lent points (suc d)) (drop (length (pointLevels w t lent points (suc d))) points)
-      ∙ omega (arith, length-drop (length (pointLevels w t lent points (suc d))) points, levels-long (suc d), room-for (suc d) (omega arith))
+      length-append (pointLevels w t lent creases points (suc d)) (drop (length (pointLevels w t lent creases points (suc d))) points)
+      ∙ omega (arith, length-drop (length (pointLevels w t lent creases points (suc d))) points, levels-long (suc d), room-for (suc d) (omega arith))
 
-  pub climb-start : {x : Level} {d : ℕ} → x ≡ cageLevel t depth → d ≡ 0 → Stands w t depth lent points d x points
+  pub climb-start : {x : Level} {d : ℕ} → x ≡ cageLevel t depth → d ≡ 0 → Stands w t depth lent creases points d x points
   unfolding withLevels levelPoints countsAt
   climb-start e z =
       rw (e, z)
-      (record { is-left = omega arith; is-before = refl; is-counts = refl; is-start = refl; is-at = refl; is-table = sym (rw cage-long (take-append-drop (3 * t .vertices) points)) })
+      (record { is-number = refl; is-left = omega arith; is-before = refl; is-counts = refl; is-start = refl; is-at = refl; is-table = sym (rw cage-long (take-append-drop (3 * t .vertices) points)) })
 
   module _ (d : ℕ) where
     abbrev rest : List ℤ
-    rest = drop (length (pointLevels w t lent points (suc d))) points
+    rest = drop (length (pointLevels w t lent creases points (suc d))) points
 
     -- level d stands where the code looks for it
     points-are : pointsAt (countsAt t d) (3 * sum d (Vs t)) (Q d) ≡ P d
     unfolding withLevels
     points-are =
-        ap (take (3 * Vs t d)) (ap (drop (3 * sum d (Vs t))) (append-assoc (pointLevels w t lent points d) (P d) rest) ∙ drop-at (pointLevels w t lent points d) (P d ++ rest) (3 * sum d (Vs t)) (levels-long d))
+        ap (take (3 * Vs t d)) (ap (drop (3 * sum d (Vs t))) (append-assoc (pointLevels w t lent creases points d) (P d) rest) ∙ drop-at (pointLevels w t lent creases points d) (P d ++ rest) (3 * sum d (Vs t)) (levels-long d))
         ∙ take-at (P d) rest (3 * Vs t d) (level-long d)
 
-    levels-end : length (pointLevels w t lent points (suc d)) ≡ 3 * sum d (Vs t) + 3 * Vs t d
+    levels-end : length (pointLevels w t lent creases points (suc d)) ≡ 3 * sum d (Vs t) + 3 * Vs t d
     levels-end = levels-long (suc d) ∙ omega arith
 
-    past-next : drop (nextEnd (countsAt t d) (3 * sum d (Vs t))) (Q d) ≡ drop (length (pointLevels w t lent points (suc (suc d)))) points
+    past-next : drop (nextEnd (countsAt t d) (3 * sum d (Vs t))) (Q d) ≡ drop (length (pointLevels w t lent creases points (suc (suc d)))) points
     unfolding countsAt withLevels
     past-next =
-        let E = pointLevels w t lent points (suc d) in
+        let E = pointLevels w t lent creases points (suc d) in
         let more = 3 * (countsAt t d .vertices + countsAt t d .edges) in
         ap (λ k. drop (k + more) (Q d)) (sym levels-end)
         ∙ drop-append-add E rest more
         ∙ drop-drop more (length E) points
         ∙ ap (λ k. drop k points) (ap (λ k. length E + k) (sym (level-long (suc d))) ∙ sym (length-append E (P (suc d))))
 
-    next-level : withNext w (countsAt t d) (level t c d) (3 * sum d (Vs t)) (Q d) ≡ withLevels w t (suc d) lent points
+    next-level : withNext w (countsAt t d) (level t c d) (creasesAt t creases d) (3 * sum d (Vs t)) (Q d) ≡ withLevels w t (suc d) lent creases points
     unfolding withNext withLevels levelPoints
     next-level =
-        let E = pointLevels w t lent points (suc d) in
+        let E = pointLevels w t lent creases points (suc d) in
         rw (take-at E rest (3 * sum d (Vs t) + 3 * Vs t d) levels-end, points-are, past-next)
-        (sym (append-assoc E (P (suc d)) (drop (length (pointLevels w t lent points (suc (suc d)))) points)))
+        (sym (append-assoc E (P (suc d)) (drop (length (pointLevels w t lent creases points (suc (suc d)))) points)))
 
   -- a table that holds one list of H cells for each level, end to end
   module _ (f : ℕ → List ℕ) (table : List ℕ) (starts : take (length (endToEnd (suc depth) f)) table ≡ endToEnd (suc depth) f) (long : (i : ℕ) → i < depth → length (f i) ≡ Hs t i) (d : ℕ) (l : d < depth) where
@@ -207,25 +209,58 @@ module _ (w : Weight) (t : HalfedgeTable) (depth : ℕ) (lent : Tables) (points 
           known = ready .known d l;
           fourfold = level-fourfold d l;
           short = omega (arith, small);
-          in-range = rw (points-are d) (levels-in-range w t c (take (3 * t .vertices) points) depth (ready .relied) (ready .in-range) d (omega arith));
+          in-range = rw (points-are d) (levels-in-range w t c creases (take (3 * t .vertices) points) depth (ready .relied) (ready .in-range) d (omega arith));
           room = rw (table-long d (omega arith)) (omega (arith, room-for (suc (suc d)) (omega arith)));
         }
 
   -- the loop's turn at level d
-  module _ {d : ℕ} {x : Level} {q : List ℤ} (stands : Stands w t depth lent points d x q) (some : 0 < x .left) where
+  module _ {d : ℕ} {x : Level} {q : List ℤ} (stands : Stands w t depth lent creases points d x q) (some : 0 < x .left) where
     deeper : d < depth
     deeper = omega (arith, stands .is-left)
 
     within : (long : ℕ) → sum d (Hs t) + Hs t d ≤ long → x .start + x .counts .halfedges ≤ long
     within long b = rw (stands .is-counts, stands .is-start) b
 
-    pub climb-asks : ReadyLevel (cageCorners t lent) x lent q
-    climb-asks =
+    level-asks : ReadyLevel (cageCorners t lent) x lent q
+    level-asks =
         record {
           in-twin = within _ (parts-within d deeper .0);
           in-vert = within _ (parts-within d deeper .1);
           in-edge = within _ (parts-within d deeper .2);
           ready = rw (stands .is-before, stands .is-counts, stands .is-start, stands .is-at, stands .is-table, parts-are d deeper) (level-ready d deeper);
+        }
+
+    -- the cage's own part of the tables
+    relied-cage : Relied t c
+    unfolding countsAt level
+    relied-cage = ready .relied 0 (omega (arith, deeper))
+
+    count-asks : ReadyCount t creases lent
+    unfolding countsAt
+    count-asks =
+        let w = parts-within 0 (omega (arith, deeper)) in
+        let r = relied-cage in
+        record {
+          in-twin = omega (arith, w .0);
+          in-vert = omega (arith, w .1);
+          in-edge = omega (arith, w .2);
+          few = ready .counts .vertices;
+          cage = record {
+            whole = r .cornered .whole;
+            twin-long = r .bordered .long;
+            edge-long = r .carried .long ∙ r .bordered .long;
+            few = rw (r .halfedges) (ready .counts .halfedges);
+            numbered = λ h b. rw (ready .numbered) (r .carried .below h (rw (r .carried .long ∙ r .bordered .long) b));
+          };
+        }
+
+    pub climb-asks : ReadyCreased (cageCorners t lent) t creases x lent q
+    climb-asks =
+        record {
+          level = level-asks;
+          limited = record { few = rw (ready .numbered) (ready .counts .edges); deep = omega (arith, stands .is-number, deeper, ready .deep) };
+          count = count-asks;
+          known = rw (stands .is-number, stands .is-counts, stands .is-start, parts-are d deeper) (ready .creased d deeper);
         }
 
     climb-small : AtMost (4 ^ most-depth * most-halfedges) (x .counts)
@@ -239,19 +274,21 @@ module _ (w : Weight) (t : HalfedgeTable) (depth : ℕ) (lent : Tables) (points 
         let c = climb-small in
         record {
           some = some;
+          number = omega (arith, stands .is-number, deeper, ready .deep);
           counts = record { halfedges = omega (arith, c .halfedges); edges = omega (arith, c .edges); vertices = omega (arith, c .vertices) };
-          start = omega (arith, climb-asks .in-twin);
+          start = omega (arith, level-asks .in-twin);
           at = omega (arith, climb-end);
         }
 
-    pub climb-on : {y : Level} {r : List ℤ} {d' : ℕ} → y ≡ nextLevel x → r ≡ withNextAt w x lent q → d' ≡ d + 1 → Stands w t depth lent points d' y r
+    pub climb-on : {y : Level} {r : List ℤ} {d' : ℕ} → y ≡ nextLevel x → r ≡ withNextAt w x lent (creasesAt t creases (x .number)) q → d' ≡ d + 1 → Stands w t depth lent creases points d' y r
     climb-on e f z =
         rw (e, z)
         (record {
+          is-number = omega (arith, stands .is-number);
           is-left = omega (arith, stands .is-left);
           is-before = rw (add-one d) (ap (λ u. u .halfedges) (stands .is-counts));
           is-counts = ap finer (stands .is-counts) ∙ counts-more t d;
           is-start = rw (add-one d, stands .is-start, stands .is-counts);
           is-at = rw (add-one d, stands .is-at, stands .is-counts) (omega arith);
-          is-table = f ∙ rw (add-one d, stands .is-counts, stands .is-start, stands .is-at, stands .is-table) (rw (parts-are d deeper) (next-level d));
+          is-table = f ∙ rw (add-one d, stands .is-number, stands .is-counts, stands .is-start, stands .is-at, stands .is-table) (rw (parts-are d deeper) (next-level d));
         })

@@ -1,3 +1,5 @@
+pub mod Next
 pub mod Passed
 pub mod Climbed
 pub mod Lent
+pub mod Drawn

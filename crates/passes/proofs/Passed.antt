@@ -3,24 +3,22 @@
 use Prim.Native.Nat.{ℕ, _+_, _-_, _*_, _/_, _%_, _≤_, _<_}
 use mathlib.Core.Path.{_≡_, sym, ap, ap₂, _∙_}
 use mathlib.Core.Logic.{_≢_}
-use mathlib.Core.List.{List, _++_, map}
+use mathlib.Core.List.{List, [], map}
 use native.Mathlib.Decide.{ℕ-discrete, decLt}
-use native.Mathlib.Nat.{le-refl, zero-add}
+use native.Mathlib.Nat.{le-refl}
 use native.Mathlib.Omega.{arith}
 use lib.Dec.{eqb}
-use lib.IntN.{ℤ, pos, natAbs, _+ℤ_, +ℤ-idl}
-use lib.ListN.{length, take, drop}
-use borrow.Author.Tests.{eq-eqb, ne-eqb, lt-ltb, le-ltb, eqb-false}
+use lib.IntN.{ℤ, natAbs, _+ℤ_, +ℤ-idl}
+use lib.ListN.{length, take}
+use borrow.Author.Tests.{lt-ltb, le-ltb, eqb-false}
 use Rattle.laws.specs.Below.{count}
 use Rattle.laws.specs.Internal.Steps.{steps}
 use Rattle.laws.proofs.Cases.{cond-keeps}
-use Rattle.laws.proofs.Middles.{splice-ext}
-use Rattle.laws.proofs.Tabulate.{length-tabulate, getD-tabulate}
 use Rattle.halfedges.specs.declared.table.HalfedgeTable.{HalfedgeTable}
 use Rattle.tables.specs.Tables.{Tables}
 use Rattle.points.specs.declared.weights.Weight.{Weight}
 use Rattle.points.specs.PointRules.{V2, V3}
-use Rattle.points.specs.NextPoints.{coordinate, spokeEnds, creaseEnds, vertexPoint, newPoint, nextPoints}
+use Rattle.points.specs.NextPoints.{coordinate, spokeEnds, creaseEnds, vertexPoint, newPoint}
 use Rattle.laws.specs.Totals.{total}
 use Rattle.points.specs.Operations.{most-coordinate}
 use Rattle.points.specs.Internal.Relied.{knownCorners, Fourfold, borderLeaves, borderEnds, Relied}
@@ -44,6 +42,7 @@ use Rattle.spokes.proofs.Settled.{settled-only, settled-is}
 use Rattle.edgepoints.proofs.Meeting.{stage}
 use Rattle.edgepoints.proofs.Written.{written-only, edge-written, started-before}
 use Rattle.edgepoints.proofs.Joined.{joined-is}
+use Rattle.passes.proofs.Next.{next-from}
 
 module _ (w : Weight) (own : List ℕ) (before : ℕ) (t : HalfedgeTable) (c : Tables) (l : List ℤ) (ready : Ready own before t c 0 l) where
   abbrev n : ℕ
@@ -188,9 +187,9 @@ module _ (w : Weight) (own : List ℕ) (before : ℕ) (t : HalfedgeTable) (c : T
     leaving = count H (borderLeaves (c .twin) (c .vert) v)
 
     abbrev ends : ℕ
-    ends = length (creaseEnds (c .twin) (c .vert) v)
+    ends = length (creaseEnds c [] v)
 
-    vertex-is : value after-write (3 * n + 3 * v + k) ≡ vertexPoint w (c .twin) (c .vert) points v k
+    vertex-is : value after-write (3 * n + 3 * v + k) ≡ vertexPoint w c [] points v k
     unfolding vertexPoint
     vertex-is =
         joined-is (c .twin) (c .vert) (c .edge) n points after-settle edged (held settle-only) (t .edges) (relied .carried) room-now v k lv lk (ready .in-range) (relied .bordered) (place-small v k lv lk) H (le-refl _)
@@ -199,19 +198,19 @@ module _ (w : Weight) (own : List ℕ) (before : ℕ) (t : HalfedgeTable) (c : T
         met : ℕ
         met = leaving + count H (borderEnds (c .twin) (c .vert) v)
 
-        by : Dec (leaving ≡ 0) → stage met (value after-settle (3 * n + 3 * v + k)) (coordinate points k v) (creaseSum (c .twin) (c .vert) points k v H) ≡ vertexPoint w (c .twin) (c .vert) points v k
+        by : Dec (leaving ≡ 0) → stage met (value after-settle (3 * n + 3 * v + k)) (coordinate points k v) (creaseSum c [] points k v H) ≡ vertexPoint w c [] points v k
         by (yes z) =
             let none : met ≡ 0 = omega (arith, z, relied .bordered .pair v lv) in
-            let no-ends : ends ≡ 0 = omega (arith, none, creases-counted (c .twin) (c .vert) v) in
-            rw (eq-eqb ends 0 no-ends)
-            (ap (λ m. stage m (value after-settle (3 * n + 3 * v + k)) (coordinate points k v) (creaseSum (c .twin) (c .vert) points k v H)) none
+            let no-ends : ends ≡ 0 = omega (arith, none, creases-counted c [] v) in
+            rw (no-ends)
+            (ap (λ m. stage m (value after-settle (3 * n + 3 * v + k)) (coordinate points k v) (creaseSum c [] points k v H)) none
             ∙ settled-place v k lv lk ∙ ap (λ m. V3 w m (coordinate points k v) (spokes v k lv lk)) (sym (ready .known .inside v lv z)))
         by (no z) =
             let two : met ≡ 2 = omega (arith, z, relied .bordered .pair v lv, relied .bordered .one v lv) in
-            let some-ends : ends ≢ 0 = λ q. omega (arith, q, two, creases-counted (c .twin) (c .vert) v) in
-            rw (ne-eqb ends 0 some-ends)
-            (ap (λ m. stage m (value after-settle (3 * n + 3 * v + k)) (coordinate points k v) (creaseSum (c .twin) (c .vert) points k v H)) two
-            ∙ ap (V2 (coordinate points k v)) (sym (creases-are (c .twin) (c .vert) v points k)))
+            let two-ends : ends ≡ 2 = omega (arith, two, creases-counted c [] v) in
+            rw (two-ends)
+            (ap (λ m. stage m (value after-settle (3 * n + 3 * v + k)) (coordinate points k v) (creaseSum c [] points k v H)) two
+            ∙ ap (V2 (coordinate points k v)) (sym (creases-are c [] v points k)))
 
   write-only : Only (3 * n) (6 * n + 3 * t .edges) l after-write
   write-only =
@@ -219,11 +218,11 @@ module _ (w : Weight) (own : List ℕ) (before : ℕ) (t : HalfedgeTable) (c : T
       (written-only (c .twin) (c .vert) (c .edge) n points after-settle edged (held settle-only) (t .edges) (relied .carried) room-now H (le-refl _))
 
   -- every cell of the next level is its point's
-  new-is : (u k : ℕ) → u < n + t .edges → k < 3 → value after-write (3 * n + (3 * u + k)) ≡ newPoint w t c points u k
+  new-is : (u k : ℕ) → u < n + t .edges → k < 3 → value after-write (3 * n + (3 * u + k)) ≡ newPoint w t c [] points u k
   unfolding newPoint
   new-is u k lu lk = by (decLt u n)
     where
-      by : Dec (u < n) → value after-write (3 * n + (3 * u + k)) ≡ newPoint w t c points u k
+      by : Dec (u < n) → value after-write (3 * n + (3 * u + k)) ≡ newPoint w t c [] points u k
       by (yes lv) =
           let e : 3 * n + (3 * u + k) ≡ 3 * n + 3 * u + k = omega arith in
           rw (e, lt-ltb u n lv) (vertex-is u k lv lk)
@@ -233,26 +232,5 @@ module _ (w : Weight) (own : List ℕ) (before : ℕ) (t : HalfedgeTable) (c : T
           rw (e, le-ltb u n (omega (arith, lv)))
           (edge-written (c .twin) (c .vert) (c .edge) n points after-settle edged (held settle-only) (t .edges) (relied .carried) room-now (u - n) k le lk)
 
-  pub passed : after-write ≡ withNext w t c 0 l
-  unfolding withNext nextPoints
-  passed =
-      rw (zero-add (3 * n))
-      (splice-ext (pos 0) l after-write next (3 * n) (write-only .long) (rw next-long (omega (arith, ready .room)))
-      (λ i b. write-only .other i (λ p q. omega arith))
-      (λ i b. inside-next i (rw next-long at b))
-      (λ i b. past i (rw next-long at b))
-      ∙ ap (λ k. take (3 * n) l ++ (next ++ drop (3 * n + k) l)) next-long)
-    where
-      next : List ℤ
-      next = nextPoints w t c points
-
-      next-long : length (nextPoints w t c points) ≡ 3 * (n + t .edges)
-      next-long = length-tabulate (3 * (n + t .edges)) (λ i. newPoint w t c points (i / 3) (i % 3))
-
-      inside-next : (i : ℕ) → i < 3 * (n + t .edges) → value after-write (3 * n + i) ≡ value (nextPoints w t c points) i
-      inside-next i b =
-          let e : 3 * (i / 3) + i % 3 ≡ i = omega arith in
-          (rw e at (new-is (i / 3) (i % 3) (omega arith) (omega arith))) ∙ sym (getD-tabulate (3 * (n + t .edges)) (λ j. newPoint w t c points (j / 3) (j % 3)) i (pos 0) b)
-
-      past : (i : ℕ) → 3 * n + 3 * (n + t .edges) ≤ i → value after-write i ≡ value l i
-      past i b = write-only .other i (λ p q. omega arith)
+  pub passed : after-write ≡ withNext w t c [] 0 l
+  passed = next-from w t c [] l (ready .room) write-only new-is

@@ -1,5 +1,6 @@
 // A level among all levels, and the next level's points from its own: the four passes.
 ghost use mathlib.Core.Path.{_≡_};
+ghost use mathlib.Core.List.{[]};
 ghost use Rattle.tables.specs.Tables.{tables};
 ghost use Rattle.passes.specs.Internal.Levels.{Ready, withNext, nextLevel, Climbs};
 use edgepoints::edges::write_edges;
@@ -9,9 +10,10 @@ use spokes::spokes::gather;
 use spokes::sums::clear_sums;
 use spokes::vertices::settle_vertices;
 
-// A level: how many come after it, its counts, how many halfedges the level before has, which is 0 for the cage, and where its
-// halfedges and its points start in the lent tables.
+// A level: its number, how many come after it, its counts, how many halfedges the level before has, which is 0 for the cage, and
+// where its halfedges and its points start in the lent tables.
 pub struct Level {
+    pub number: usize,
     pub left: usize,
     pub counts: HalfedgeTable,
     pub before: usize,
@@ -28,6 +30,7 @@ impl Level {
         let counts = self.counts;
         let finer = counts.finer();
         Level {
+            number: self.number + 1,
             left: self.left - 1,
             counts: finer,
             before: counts.halfedges,
@@ -37,7 +40,7 @@ impl Level {
     }
 }
 
-// The next level's points, in a table that starts with the level's own.
+// The next level's points, in a table that starts with the level's own, of a level without creases inside.
 pub fn next_points(
     weight: Weight,
     own: &[u32],
@@ -49,7 +52,7 @@ pub fn next_points(
 )
     requires { ⌜ Ready (now own) (level .before) (level .counts) (tables (now twin) (now vert) (now edge)) 0 (now points) ⌝ }
     ensures { λ _.
-        ⌜ now (points .exit) ≡ withNext weight (level .counts) (tables (now (twin .entry)) (now (vert .entry)) (now (edge .entry))) 0
+        ⌜ now (points .exit) ≡ withNext weight (level .counts) (tables (now (twin .entry)) (now (vert .entry)) (now (edge .entry))) [] 0
         (now (points .entry)) ⌝ }
 {
     let vertices = level.counts.vertices;

@@ -5,3 +5,4 @@ pub mod Carriers
 pub mod Range
 pub mod Only
 pub mod Holding
+pub mod Alike

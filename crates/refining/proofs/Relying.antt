@@ -56,6 +56,7 @@ module _ (t : HalfedgeTable) (c : Tables) (s : Shaped c) (r : Ruled c (t .vertic
           some = λ i l. let k = carried (c .twin) small (r .paired) (c .edge) (r .numbered) i (rw (← edges) at l) in (k .0, omega (arith, k .1, s .edge-long), k .2);
           own = λ g h lg lh. r .numbered .own g h (rw (s .edge-long) at lg) (rw (s .edge-long) at lh);
         };
+        twin-ends = r .placed .twin-ends;
       }
 
 -- an added vertex has at most six corners

@@ -44,12 +44,12 @@ bordered c long u e =
     by : (h : ℕ) → (leaves (c .vert) u h || eqb (far (c .vert) h) u) ≡ true → (cell (c .vert) h ≡ u) ⊎ (far (c .vert) h ≡ u)
     by h t = by-test (leaves (c .vert) u h) (λ a. inl (eqb-true _ u a)) (λ a. inr (eqb-true _ u (rw a at t)))
 
-module _ (w : Weight) (c : Tables) (points : List ℤ) (depth : ℕ) (e : first (refineChecks w c points depth) ≡ DONE) where
+module _ (w : Weight) (c : Tables) (creases : List ℕ) (points : List ℤ) (depth : ℕ) (e : first (refineChecks w c creases points depth) ≡ DONE) where
   abbrev v : ℕ
   v = vertices points
 
   done : first (tableChecks c (vertices points) depth) ≡ DONE
-  done = tables-done w c points depth e
+  done = tables-done w c creases points depth e
 
   meant : Shaped c × Ruled c (vertices points) × (length (c .twin) ≤ most-halfedges)
   meant =
@@ -60,7 +60,7 @@ module _ (w : Weight) (c : Tables) (points : List ℤ) (depth : ℕ) (e : first 
   few-inside : w ≡ Paper → (u : ℕ) → u < vertices points → ¬ OnBorder c u → cornersAt c u ≤ most-valence
   unfolding manyCorners cornersAt corners
   few-inside paper u l inside =
-      let clean = done-nowhere v (manyCorners (c .twin) (c .vert)) VALENCE [] (λ k. refl) (rw paper at (valences-done w c points depth e)) .0 u l in
+      let clean = done-nowhere v (manyCorners (c .twin) (c .vert)) VALENCE [] (λ k. refl) (rw paper at (valences-done w c creases points depth e)) .0 u l in
       by-test (onBorder (c .twin) (c .vert) u) (λ on. absurd (inside (bordered c (meant .0 .vert-long) u on)))
       (λ off. ltb-false most-valence _ (rw (off, length-select (leaves (c .vert) u) (length (c .vert)), meant .0 .vert-long) at clean))
 

@@ -1,15 +1,17 @@
 // The library for programs in C, C++ and Rust: each operation on numbers, slices and one lent answer.
 ghost use mathlib.Core.Path.{_≡_};
+ghost use mathlib.Core.List.{[], _∷_};
+ghost use Rattle.halfedges.specs.Cage.{E};
 ghost use Rattle.halfedges.specs.Counts.{countQuestion};
 ghost use Rattle.halfedges.specs.Corners.{cornerQuestion};
 ghost use Rattle.tables.specs.Tables.{tables};
 ghost use Rattle.points.specs.Weights.{weightOf};
-ghost use Rattle.points.specs.Operations.{checkCage, refineCage};
+ghost use Rattle.points.specs.Operations.{checkCreased, refineCage};
 ghost use Rattle.building.specs.Building.{buildCage};
 ghost use Rattle.reading.specs.Reading.{readFile};
 ghost use Rattle.writing.specs.Writing.{writeFile};
 ghost use Rattle.stl.specs.Writing.{writeStl};
-ghost use Rattle.answers.specs.Cells.{cells as Cells·cells, lengthCells, stlCells, levelCells};
+ghost use Rattle.answers.specs.Cells.{cells as Cells·cells, lengthCells, numberCell, stlCells, levelCells};
 use answers;
 use building;
 use halfedges::corners;
@@ -18,23 +20,35 @@ use points::weights::Weight;
 use reading;
 use refining;
 use stl;
+use tables::rules;
 use writing;
 
-// The cage check 1 to 8.
+// The cage check 1 to 8 and 15.
 #[no_mangle]
 pub extern "C" fn ryebadger_check(
     twin: &[u32],
     vert: &[u32],
     edge: &[u32],
     points: &[i32],
+    creases: &[u8],
     answer: &mut [u32; 7],
 )
     ensures { λ _.
         ⌜ now (answer .exit)
-        ≡ Cells·cells (checkCage (tables (now (twin .entry)) (now (vert .entry)) (now (edge .entry))) (now (points .entry))) ⌝ }
+        ≡ Cells·cells (checkCreased (tables (now (twin .entry)) (now (vert .entry)) (now (edge .entry))) (now (creases .entry))
+        (now (points .entry))) ⌝ }
 {
-    let checked = cage::check_cage(twin, vert, edge, points);
+    let checked = cage::check_creased(twin, vert, edge, points, creases);
     *answer = answers::of_check(checked);
+}
+
+// How many edges a twin table has, which is how long its crease table has to be.
+#[no_mangle]
+pub extern "C" fn ryebadger_edges(twin: &[u32], answer: &mut [u32; 1])
+    ensures { λ _. ⌜ now (answer .exit) ≡ numberCell (E (now (twin .entry))) ∷ [] ⌝ }
+{
+    let edges = rules::count_edges(twin);
+    *answer = [answers::number_cell(edges)];
 }
 
 // Building TWIN and EDGE from VERT and the points, in front of two lent tables.
@@ -61,7 +75,7 @@ pub extern "C" fn ryebadger_counts(
     edges: usize,
     vertices: usize,
     depth: usize,
-    answer: &mut [u32; 25],
+    answer: &mut [u32; 26],
 )
     ensures { λ _.
         ⌜ now (answer .exit)
@@ -76,27 +90,30 @@ pub extern "C" fn ryebadger_counts(
     *answer = answers::of_counts(counted);
 }
 
-// Refining: levels 0 to the depth end to end in four lent tables, by the weight whose number is given.
+// Refining: levels 0 to the depth end to end in five lent tables, by the weight whose number is given.
 #[no_mangle]
 pub extern "C" fn ryebadger_refine(
     twin: &[u32],
     vert: &[u32],
     edge: &[u32],
     points: &[i32],
+    creases: &[u8],
     depth: usize,
     weight: u32,
     twins: &mut [u32],
     verts: &mut [u32],
     edges: &mut [u32],
     places: &mut [i32],
-    answer: &mut [u32; 25],
+    seams: &mut [u8],
+    answer: &mut [u32; 26],
 )
     ensures { λ _.
         let after = refineCage (weightOf weight) (tables (now (twin .entry)) (now (vert .entry)) (now (edge .entry)))
-        (now (points .entry)) depth (tables (now (twins .entry)) (now (verts .entry)) (now (edges .entry))) (now (places .entry)) in
+        (now (creases .entry)) (now (points .entry)) depth (tables (now (twins .entry)) (now (verts .entry)) (now (edges .entry)))
+        (now (places .entry)) (now (seams .entry)) in
         ⌜ (now (answer .exit) ≡ levelCells (after .answer))
         × (tables (now (twins .exit)) (now (verts .exit)) (now (edges .exit)) ≡ after .lent)
-        × (now (places .exit) ≡ after .points) ⌝ }
+        × (now (places .exit) ≡ after .points) × (now (seams .exit) ≡ after .creases) ⌝ }
 {
     let chosen = Weight::numbered(weight);
     let counted = refining::refine(
@@ -104,12 +121,14 @@ pub extern "C" fn ryebadger_refine(
         vert,
         edge,
         points,
+        creases,
         depth,
         chosen,
         twins,
         verts,
         edges,
         places,
+        seams,
     );
     *answer = answers::of_counts(counted);
 }

@@ -49,18 +49,18 @@ own-part m f g n rest long d l =
 quarters : (q h f : ℕ) → h ≡ f * 3 → F (q * h) ≡ q * f
 quarters q h f e = ap (λ n. F (q * n)) e ∙ ap F (sym (mul-assoc q f 3)) ∙ mul-div-cancel (q * f) (lit< tt)
 
-module _ (w : Weight) (c : Tables) (points : List ℤ) (depth : ℕ) (x : Tables) (xp : List ℤ) (e : refineVerdict w c points depth x xp ≡ DONE) where
+module _ (w : Weight) (c : Tables) (creases : List ℕ) (points : List ℤ) (depth : ℕ) (x : Tables) (xp : List ℤ) (xc : List ℕ) (e : refineVerdict w c creases points depth x xp xc ≡ DONE) where
   abbrev t : HalfedgeTable
   t = countsOf c (vertices points)
 
-  done : first (refineChecks w c points depth) ≡ DONE
-  done = both-done w c points depth x xp e .0
+  done : first (refineChecks w c creases points depth) ≡ DONE
+  done = both-done w c creases points depth x xp xc e .0
 
   deep : depth ≤ most-depth
-  deep = counts-granted w c points depth done refl .1
+  deep = counts-granted w c creases points depth done refl .1
 
-  kept : (d : ℕ) → d ≤ depth → WholeInvariant w c points d
-  kept d l = accepted-whole w c points depth done d (omega (arith, deep))
+  kept : (d : ℕ) → d ≤ depth → WholeInvariant w c creases points d
+  kept d l = accepted-whole w c creases points depth done d (omega (arith, deep))
 
   vert-long : (d : ℕ) → d ≤ depth → length (level t c d .vert) ≡ Hs t d
   vert-long d l = kept d l .tables .shaped .vert-long ∙ sym (kept d l .tables .quoted-halfedges)
@@ -70,10 +70,10 @@ module _ (w : Weight) (c : Tables) (points : List ℤ) (depth : ℕ) (x : Tables
     vert = level t c d .vert
 
     abbrev places : List ℤ
-    places = levelPoints w t c points d
+    places = levelPoints w t c creases points d
 
     V-long : length places ≡ 3 * Vs t d
-    V-long = level-long w c points depth x xp e d
+    V-long = level-long w c creases points depth x xp xc e d
 
     twin-long : length vert ≡ 4 ^ d * length (c .twin)
     twin-long = kept d l .tables .shaped .vert-long ∙ kept d l .tables .halfedges
@@ -89,7 +89,7 @@ module _ (w : Weight) (c : Tables) (points : List ℤ) (depth : ℕ) (x : Tables
         )
 
     few : length vert ≤ longest
-    few = let low : d ≤ most-depth = omega (arith, deep) in rw twin-long (mul-le-mul (pow-le-pow-right {n = 4} (omega arith) low) (counts-granted w c points depth done refl .0 .halfedges))
+    few = let low : d ≤ most-depth = omega (arith, deep) in rw twin-long (mul-le-mul (pow-le-pow-right {n = 4} (omega arith) low) (counts-granted w c creases points depth done refl .0 .halfedges))
 
     placed : Clean (length vert) (pastPoints vert (vertices places))
     unfolding pastPoints
@@ -120,13 +120,13 @@ module _ (w : Weight) (c : Tables) (points : List ℤ) (depth : ℕ) (x : Tables
         rw (one-mul, one-mul) at
         (own-part 1 (λ k. level t c k .vert) (Hs t) (suc depth) (x .vert) (λ k b. vert-long k (omega arith) ∙ sym (one-mul (Hs t k))) d (omega arith))
 
-    places-there : ownPlaces t d (inFront (endToEnd (suc depth) (levelPoints w t c points)) xp) ≡ places
-    places-there = own-part 3 (levelPoints w t c points) (Vs t) (suc depth) xp (λ k _. level-long w c points depth x xp e k) d (omega arith)
+    places-there : ownPlaces t d (inFront (endToEnd (suc depth) (levelPoints w t c creases points)) xp) ≡ places
+    places-there = own-part 3 (levelPoints w t c creases points) (Vs t) (suc depth) xp (λ k _. level-long w c creases points depth x xp xc e k) d (omega arith)
 
-    pub levels-writable : Writable w c points depth x xp d
+    pub levels-writable : Writable w c creases points depth x xp xc d
     unfolding tablesInFront levelsEndToEnd
     levels-writable =
-        let after = refine-done w c points depth x xp e in
+        let after = refine-done w c creases points depth x xp xc e in
         record {
           corners = ap (λ u. ownCorners t d (u .vert)) (sym (after .1)) ∙ corners-there;
           places = ap (ownPlaces t d) (sym (after .2)) ∙ places-there;

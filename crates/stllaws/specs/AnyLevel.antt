@@ -25,19 +25,21 @@ abbrev pub ownPlaces : HalfedgeTable → ℕ → List ℤ → List ℤ
 ownPlaces t d points = take (3 * Vs t d) (drop (3 * sum d (Vs t)) points)
 
 -- level d of a cage that was refined into lent tables
-pub record Writable (w : Weight) (c : Tables) (points : List ℤ) (depth : ℕ) (lent : Tables) (lentPoints : List ℤ) (d : ℕ) : Type 0 where
+pub record Writable
+    (w : Weight) (c : Tables) (creases : List ℕ) (points : List ℤ) (depth : ℕ) (lent : Tables) (lentPoints : List ℤ) (lentCreases : List ℕ)
+    (d : ℕ) : Type 0 where
   -- its own parts are its VERT and its points
   pub corners :
-      ownCorners (countsOf c (vertices points)) d (refineCage w c points depth lent lentPoints .lent .vert)
+      ownCorners (countsOf c (vertices points)) d (refineCage w c creases points depth lent lentPoints lentCreases .lent .vert)
       ≡ level (countsOf c (vertices points)) c d .vert
   pub places :
-      ownPlaces (countsOf c (vertices points)) d (refineCage w c points depth lent lentPoints .points)
-      ≡ levelPoints w (countsOf c (vertices points)) c points d
+      ownPlaces (countsOf c (vertices points)) d (refineCage w c creases points depth lent lentPoints lentCreases .points)
+      ≡ levelPoints w (countsOf c (vertices points)) c creases points d
   -- none of 1, 2, 4 and 8 is given on them
   pub passes :
-      first (stlChecks (level (countsOf c (vertices points)) c d .vert) (levelPoints w (countsOf c (vertices points)) c points d))
+      first (stlChecks (level (countsOf c (vertices points)) c d .vert) (levelPoints w (countsOf c (vertices points)) c creases points d))
       ≡ DONE
   -- the room that they need
   pub room :
-      length (stlFile (level (countsOf c (vertices points)) c d .vert) (levelPoints w (countsOf c (vertices points)) c points d))
+      length (stlFile (level (countsOf c (vertices points)) c d .vert) (levelPoints w (countsOf c (vertices points)) c creases points d))
       ≡ 84 + 50 * (4 ^ d * F (length (c .twin)))

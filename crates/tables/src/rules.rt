@@ -1,7 +1,7 @@
 // Rules 3 to 6, each given at the lowest place where it is broken. A rule relies on those before it.
 ghost use mathlib.Core.Path.{_≡_};
 ghost use mathlib.Core.Bool.{cond};
-ghost use Prim.Native.Nat.{ℕ, _+_, _≤_, _<_};
+ghost use Prim.Native.Nat.{ℕ, _+_, _^_, _≤_, _<_};
 ghost use lib.Dec.{eqb};
 ghost use lib.ListN.{length, getD};
 ghost use Rattle.halfedges.specs.Cage.{most-halfedges, most-vertices, E, B};
@@ -96,8 +96,8 @@ pub fn count_numbers(table: &[u32], tally: &mut [u32])
 }
 
 // One more of a number, where the tally has a cell for it.
-fn count_one(tally: &mut [u32], number: usize)
-    requires { ⌜ (number < length (now tally) → getD (now tally) number 0 < most-halfedges) ⌝ }
+pub fn count_one(tally: &mut [u32], number: usize)
+    requires { ⌜ (number < length (now tally) → getD (now tally) number 0 < 2 ^ 31) ⌝ }
     ensures { λ _.
         ⌜ ((x : ℕ) → x < length (now (tally .entry)) → getD (now (tally .exit)) x 0
         ≡ getD (now (tally .entry)) x 0 + cond (eqb number x) 1 0) ⌝ }

@@ -46,6 +46,6 @@ countWords level h e v = decimal level ∷ decimal h ∷ decimal e ∷ decimal (
 abbrev pub levelWords : Levels → ℕ → List (List ℕ)
 levelWords l k = countWords k (getD (l .halfedges) k 0) (getD (l .edges) k 0) (getD (l .vertices) k 0)
 
--- "then `room`, the sum of H and the sum of V"
-abbrev pub roomLine : ℕ → ℕ → List ℕ
-roomLine halfedges vertices = line (ascii "room" ∷ decimal halfedges ∷ decimal vertices ∷ [])
+-- "then `room`, the sum of H and the sum of V", and "a third number" for the sum of E
+abbrev pub roomLine : ℕ → ℕ → ℕ → List ℕ
+roomLine halfedges vertices edges = line (ascii "room" ∷ decimal halfedges ∷ decimal vertices ∷ decimal edges ∷ [])

@@ -81,10 +81,11 @@ pub fn put_counts(out: &mut [u8], at: usize, counts: LevelCounts, after: u8) -> 
 }
 
 // The line of the room.
-pub fn put_room(out: &mut [u8], at: usize, halfedges: usize, vertices: usize) -> usize
-    requires { ⌜ at + 47 ≤ length (now out) ⌝ }
-    ensures { λ r. ⌜ Put (now (out .entry)) at 47 (roomLine halfedges vertices) (now (out .exit)) r ⌝ }
+pub fn put_room(out: &mut [u8], at: usize, halfedges: usize, vertices: usize, edges: usize) -> usize
+    requires { ⌜ at + 68 ≤ length (now out) ⌝ }
+    ensures { λ r. ⌜ Put (now (out .entry)) at 68 (roomLine halfedges vertices edges) (now (out .exit)) r ⌝ }
 {
-    let next = put_word(&mut *out, at, b"room", SPACE);
-    put_pair(&mut *out, next, halfedges, vertices, NEWLINE)
+    let named = put_word(&mut *out, at, b"room", SPACE);
+    let next = put_pair(&mut *out, named, halfedges, vertices, SPACE);
+    put_number(&mut *out, next, edges, NEWLINE)
 }

@@ -4,6 +4,8 @@
 use second::cage::Cage;
 use second::file::write_cage_file;
 
+use crate::marked_tables;
+
 /// The second program's file of an accepted cage.
 pub fn file_of(cage: &Cage) -> Vec<u8> {
     let mut file = vec![0; 65_536];
@@ -18,9 +20,19 @@ pub fn stl_length(vert: &[u32]) -> usize {
 }
 
 /// The lengths of the tables of a cage.
-pub fn lengths_of(cage: &Cage) -> [usize; 4] {
-    let points = cage.points.len();
-    [cage.twin.len(), cage.vert.len(), cage.edge.len(), points]
+pub fn lengths_of(cage: &Cage) -> [usize; 5] {
+    let of_halfedges = [&cage.twin, &cage.vert, &cage.edge];
+    let [twin, vert, edge] = of_halfedges.map(|table| table.len());
+    [twin, vert, edge, cage.points.len(), cage.creases.len()]
+}
+
+/// What reading the cage's file leaves in marked tables as long as the cage's:
+/// the file has no creases, and the lent ones stay.
+pub fn as_read(cage: &Cage) -> Cage {
+    Cage {
+        creases: marked_tables(lengths_of(cage)).creases,
+        ..cage.clone()
+    }
 }
 
 /// The offsets of the six heads in the file of a cage, and the file's end.

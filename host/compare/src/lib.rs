@@ -15,12 +15,12 @@ mod question;
 mod suite;
 mod vertices;
 
-pub use asked::{chosen, handed, Archive, Operations, SafeCrate, SecondProgram};
-pub use files::{file_of, heads, lengths_of, stl_length};
+pub use asked::{chosen, handed, lent, owned, Archive, Operations, SafeCrate, SecondProgram};
+pub use files::{as_read, file_of, heads, lengths_of, stl_length};
 pub use outcome::{first_difference, Difference, Outcome};
 pub use process::{repository, run};
-pub use question::{marked_tables, Question, WEIGHTS};
-pub use suite::{accepted, named, refused, room_at, verdict_with};
+pub use question::{marked_tables, Question, PLACES, WEIGHTS};
+pub use suite::{accepted, creased, named, refused, room_at, verdict_with};
 pub use vertices::{vertices_of, Vertex};
 
 /// Puts the question to all three, which have to leave the same behind.

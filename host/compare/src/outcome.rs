@@ -8,7 +8,7 @@ use second::suite::Expected;
 /// Every number of the answer and every lent cell.
 #[derive(Clone, Debug, Default, PartialEq, Eq)]
 pub struct Outcome {
-    /// Number, place and values.
+    /// Number, place and values; or E alone.
     pub answer: Vec<u64>,
     /// The lent tables.
     pub tables: Cage,
@@ -41,14 +41,15 @@ impl Outcome {
 pub struct Difference {
     pub part: &'static str,
     pub cell: usize,
-    pub host: Option<i64>,
-    pub second: Option<i64>,
+    pub host: Option<i128>,
+    pub second: Option<i128>,
 }
 
 impl fmt::Display for Difference {
     fn fmt(&self, out: &mut fmt::Formatter<'_>) -> fmt::Result {
-        let shown = |cell: Option<i64>| cell.map_or("nothing".to_string(), |cell| cell.to_string());
-        let (host, second) = (shown(self.host), shown(self.second));
+        let shown = |cell: i128| cell.to_string();
+        let [host, second] =
+            [self.host, self.second].map(|cell| cell.map_or("nothing".into(), shown));
         let (part, cell) = (self.part, self.cell);
         write!(
             out,
@@ -60,29 +61,30 @@ impl fmt::Display for Difference {
 /// Where the outcomes of the host and of the second program differ, if they do.
 pub fn first_difference(host: &Outcome, second: &Outcome) -> Option<Difference> {
     let (ours, theirs) = (&host.tables, &second.tables);
-    difference_in("answer", &host.answer, &second.answer, |&cell| cell as i64)
-        .or_else(|| difference_in("twin", &ours.twin, &theirs.twin, |&cell| cell.into()))
-        .or_else(|| difference_in("vert", &ours.vert, &theirs.vert, |&cell| cell.into()))
-        .or_else(|| difference_in("edge", &ours.edge, &theirs.edge, |&cell| cell.into()))
-        .or_else(|| difference_in("points", &ours.points, &theirs.points, |&cell| cell.into()))
-        .or_else(|| difference_in("file", &host.file, &second.file, |&cell| cell.into()))
+    difference_in("answer", &host.answer, &second.answer)
+        .or_else(|| difference_in("twin", &ours.twin, &theirs.twin))
+        .or_else(|| difference_in("vert", &ours.vert, &theirs.vert))
+        .or_else(|| difference_in("edge", &ours.edge, &theirs.edge))
+        .or_else(|| difference_in("points", &ours.points, &theirs.points))
+        .or_else(|| difference_in("creases", &ours.creases, &theirs.creases))
+        .or_else(|| difference_in("file", &host.file, &second.file))
 }
 
-fn difference_in<T: PartialEq>(
+fn difference_in<T: Copy + PartialEq + Into<i128>>(
     part: &'static str,
     host: &[T],
     second: &[T],
-    shown: fn(&T) -> i64,
 ) -> Option<Difference> {
     if host == second {
         return None;
     }
     let differs = |&cell: &usize| host.get(cell) != second.get(cell);
     let cell = (0..host.len().max(second.len())).find(differs)?;
+    let shown = |cells: &[T]| cells.get(cell).map(|&cell| cell.into());
     Some(Difference {
         part,
         cell,
-        host: host.get(cell).map(shown),
-        second: second.get(cell).map(shown),
+        host: shown(host),
+        second: shown(second),
     })
 }

@@ -1,12 +1,15 @@
-//! Document 01, "Points": what is at each vertex of a cage or level.
+//! Document 01, "Points", and document 02, "Edges that stay sharp": what is at
+//! each vertex of a cage or level.
 
 use second::cage::{Cage, MARKER};
 
-/// The corners at a vertex and the far ends of its border edges.
+/// The corners at a vertex, the far ends of its border edges, and those of its
+/// creases, border edges among them.
 #[derive(Clone, Debug, Default)]
 pub struct Vertex {
     pub corners: usize,
     pub border_neighbours: Vec<u32>,
+    pub crease_neighbours: Vec<u32>,
 }
 
 impl Vertex {
@@ -22,9 +25,18 @@ pub fn vertices_of(level: &Cage) -> Vec<Vertex> {
         let next = if h % 3 == 2 { h - 2 } else { h + 1 };
         let (from, to) = (level.vert[h], level.vert[next]);
         vertices[from as usize].corners += 1;
-        if level.twin[h] == MARKER {
-            vertices[from as usize].border_neighbours.push(to);
-            vertices[to as usize].border_neighbours.push(from);
+        let is_border = level.twin[h] == MARKER;
+        // An inner edge at the higher of its two halfedges.
+        let is_inner_crease =
+            level.creases[level.edge[h] as usize] > 0 && (level.twin[h] as usize) < h;
+        for (vertex, far_end) in [(from, to), (to, from)] {
+            let vertex = &mut vertices[vertex as usize];
+            if is_border {
+                vertex.border_neighbours.push(far_end);
+            }
+            if is_border || is_inner_crease {
+                vertex.crease_neighbours.push(far_end);
+            }
         }
     }
     vertices

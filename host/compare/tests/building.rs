@@ -52,7 +52,9 @@ fn as_cage(vert: &[u32], points: &[i32], outcome: &Outcome) -> Cage {
         vert: vert.to_vec(),
         edge: outcome.tables.edge[..vert.len()].to_vec(),
         points: points.to_vec(),
+        ..Cage::default()
     }
+    .without_creases()
 }
 
 /// What was built passes the check, with the same answer.

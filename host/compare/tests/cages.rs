@@ -3,7 +3,7 @@
 
 use std::path::Path;
 
-use compare::{assert_alike, lengths_of, named, room_at, Question, WEIGHTS};
+use compare::{as_read, assert_alike, lengths_of, named, room_at, Question, WEIGHTS};
 use second::cage::Cage;
 use second::file::write_cage_file;
 
@@ -33,7 +33,7 @@ fn each_file_is_read_refined_and_written_alike() {
     for name in CAGES {
         let (file, cage): (Vec<u8>, Cage) = (file_in_repository(name), named(name));
         let read = assert_alike(name, &Question::Read(&file, lengths_of(&cage)));
-        assert_eq!(read.tables, cage, "{name}");
+        assert_eq!(read.tables, as_read(&cage), "{name}");
         let written = assert_alike(name, &Question::Write(&cage, file.len()));
         assert_eq!(written.file, file, "{name}");
         for depth in 0..=6 {

@@ -2,8 +2,8 @@
 //! is wrong is said.
 
 use compare::{
-    assert_same, file_of, first_difference, named, room_at, stl_length, Archive, Difference,
-    Outcome, Question, SecondProgram,
+    assert_same, creased, file_of, first_difference, named, room_at, stl_length, Archive,
+    Difference, Outcome, Question, SecondProgram,
 };
 use second::weight::Weight;
 
@@ -26,6 +26,9 @@ fn changed_everywhere(outcome: &Outcome) -> Vec<(&'static str, usize, Outcome)> 
     change("points", tables.points.len(), &|o, at| {
         o.tables.points[at] -= 1
     });
+    change("creases", tables.creases.len(), &|o, at| {
+        o.tables.creases[at] ^= 1
+    });
     change("file", outcome.file.len(), &|o, at| o.file[at] ^= 128);
     changed
 }
@@ -33,17 +36,25 @@ fn changed_everywhere(outcome: &Outcome) -> Vec<(&'static str, usize, Outcome)> 
 #[test]
 fn one_wrong_cell_anywhere_is_reported_there() {
     let (cage, many) = (named("pillow"), named("disc-33"));
+    let (seam, sharper) = (creased(&cage, |_| 2), creased(&cage, |_| 11));
     let file = file_of(&cage);
     let room = room_at(&cage, 1).map(|length| length + 3);
+    let mut short = room_at(&cage, 1);
+    short[4] -= 1;
     let stl = stl_length(&cage.vert);
     for question in [
         Question::Check(&cage),
+        Question::Check(&sharper),
+        Question::Edges(&cage.twin),
         Question::Counts([12, 6, 4, 2]),
         Question::Corners(&cage.vert, 1),
         Question::Refine(&cage, 1, Weight::Short, room),
         Question::Refine(&cage, 1, Weight::Paper, room),
         Question::Refine(&cage, 7, Weight::Short, room),
         Question::Refine(&many, 0, Weight::Paper, room),
+        Question::Refine(&seam, 1, Weight::Short, room),
+        Question::Refine(&seam, 1, Weight::Short, short),
+        Question::Refine(&sharper, 1, Weight::Short, room),
         Question::Read(&file, room),
         Question::Read(&file[1..], room),
         Question::Write(&cage, file.len() + 3),
@@ -74,7 +85,7 @@ fn a_missing_or_further_cell_is_reported() {
     other.answer.pop();
     for (host, second) in [(&other, &judged), (&judged, &other)] {
         let found = first_difference(host, second).expect("a difference");
-        assert_eq!((found.part, found.cell), ("answer", 24));
+        assert_eq!((found.part, found.cell), ("answer", 25));
     }
 }
 
@@ -94,6 +105,33 @@ fn the_other_weight_is_reported() {
         second: Some(5),
     };
     assert_eq!(found, of_vertex_0);
+}
+
+/// And so are creases: edge 0 of the pillow gets its midpoint, (8,0,0), and
+/// without a crease (6,4,0). Its ends have one crease each, and are smooth.
+#[test]
+fn a_missing_crease_is_reported() {
+    let cage = named("pillow");
+    let seam = creased(&cage, |edge| u8::from(edge == 0));
+    let asked = |cage| Question::Refine(cage, 1, Weight::Short, room_at(cage, 1));
+    let mut host = asked(&cage).put_to(&Archive::default());
+    let judged = asked(&seam).put_to(&SecondProgram);
+    let of_edge_0 = Difference {
+        part: "points",
+        cell: 9 + 9,
+        host: Some(6),
+        second: Some(8),
+    };
+    assert_eq!(first_difference(&host, &judged), Some(of_edge_0));
+    // With these points there is still the table, which level 0 has it in.
+    host.tables.points.clone_from(&judged.tables.points);
+    let in_the_table = Difference {
+        part: "creases",
+        cell: 0,
+        host: Some(0),
+        second: Some(1),
+    };
+    assert_eq!(first_difference(&host, &judged), Some(in_the_table));
 }
 
 /// The assertion that every comparison goes through is one that fails.

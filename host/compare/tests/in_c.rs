@@ -5,9 +5,12 @@ use std::path::{Path, PathBuf};
 use std::process::{Command, Output};
 use std::sync::LazyLock;
 
-use compare::{file_of, named, repository, room_at, run, stl_length, Question, SecondProgram};
+use compare::{
+    creased, file_of, named, repository, room_at, run, stl_length, Question, SecondProgram, PLACES,
+};
 use second::build::build;
 use second::cage::{Cage, COORDINATE_LIMIT, DEPTH_LIMIT, HALFEDGE_LIMIT, MARKER, VERTEX_LIMIT};
+use second::creases::CREASE_LIMIT;
 use second::lister::list_levels;
 use second::stl::VERT_LIMIT;
 use second::suite::suite;
@@ -78,6 +81,7 @@ fn the_header_in_c_and_in_cxx() {
         ("MOST_VERTICES", VERTEX_LIMIT),
         ("MOST_DEPTH", DEPTH_LIMIT),
         ("LEVELS", DEPTH_LIMIT + 1),
+        ("MOST_CREASE", CREASE_LIMIT.into()),
         ("MOST_COORDINATE", COORDINATE_LIMIT as u64),
         ("LONGEST_FILE", 24 + 6 * HALFEDGE_LIMIT + 12 * VERTEX_LIMIT),
         ("LONGEST_TABLE", VERT_LIMIT as u64),
@@ -87,12 +91,20 @@ fn the_header_in_c_and_in_cxx() {
         ("SHORT_WEIGHT", 0),
         ("PAPER_WEIGHT", 1),
         ("MOST_CORNERS", *VALENCES.end() as u64),
+        ("CAGE_FILE", 5),
+        ("STL_FILE", 6),
+        ("EDGES_ANSWER", 1),
+        ("AT_E_ROOM + 1", 26),
+        ("COUNTS_ANSWER", 26),
     ];
+    let tables = ["TWIN", "VERT", "EDGE", "POINTS", "CREASE"].map(|name| format!("{name}_TABLE"));
+    let tables = tables.iter().map(String::as_str).zip(PLACES);
     let names = [
         "DONE", "SHAPE", "LIMIT", "TWIN", "VERTEX", "UNUSED", "EDGE", "FAN", "POINT", "ROOM",
-        "SHORT", "FIELD", "EXTRA", "DOUBLED", "VALENCE",
+        "SHORT", "FIELD", "EXTRA", "DOUBLED", "VALENCE", "CREASE",
     ];
-    for (name, number) in limits.into_iter().chain(names.into_iter().zip(0..)) {
+    let numbers = limits.into_iter().chain(tables);
+    for (name, number) in numbers.chain(names.into_iter().zip(0..)) {
         source += &format!("static_assert(RYEBADGER_{name} == {number}u, \"{name}\");\n");
     }
     let for_c = format!("#include <assert.h>\n{source}");
@@ -170,7 +182,9 @@ fn the_example_says_what_is_wrong() {
     assert_eq!(nowhere.status.code(), Some(2));
 }
 
-/// Too few words, too many, or another one for the weight.
+const USAGE: &str = "example: usage: example FILE DEPTH short|paper [STL [EDGE=NUMBER ...]]\n";
+
+/// Too few words, another one for the weight, or one that is no crease.
 #[test]
 fn the_example_says_how_it_is_used() {
     let triangle = repository().join("cages/triangle.cage");
@@ -188,13 +202,22 @@ fn the_example_says_how_it_is_used() {
         &[triangle, "1", "pape"],
         &[triangle, "paper", "1"],
         &[triangle, "1", "paper", "level.stl", "more"],
+        &[triangle, "1", "paper", "level.stl", ""],
+        &[triangle, "1", "paper", "level.stl", "1"],
+        &[triangle, "1", "paper", "level.stl", "=1"],
+        &[triangle, "1", "paper", "level.stl", "1="],
+        &[triangle, "1", "paper", "level.stl", "1=x"],
+        &[triangle, "1", "paper", "level.stl", "1=1x"],
+        &[triangle, "1", "paper", "level.stl", "1=256"],
+        &[triangle, "1", "paper", "level.stl", "1=-1"],
+        &[triangle, "1", "paper", "level.stl", "1:1"],
+        &[triangle, "1", "paper", "level.stl", "1=0", "1=0,2=0"],
     ] {
         let mut command = Command::new(&*EXAMPLE);
         command.current_dir(env!("CARGO_TARGET_TMPDIR"));
         let output = run(command.args(words), &[]);
         assert_eq!(output.status.code(), Some(2), "{words:?}");
-        let line = "example: usage: example FILE DEPTH short|paper [STL]\n";
-        assert_eq!(String::from_utf8_lossy(&output.stderr), line, "{words:?}");
+        assert_eq!(String::from_utf8_lossy(&output.stderr), USAGE, "{words:?}");
         assert!(output.stdout.is_empty(), "{words:?}");
     }
 }
@@ -204,7 +227,7 @@ fn stl_at(cage: &Cage, depth: u64, weight: Weight) -> Vec<u8> {
     let refining = Question::Refine(cage, depth, weight, room_at(cage, depth));
     let tables = refining.put_to(&SecondProgram).tables;
     let before = depth.checked_sub(1).map(|above| room_at(cage, above));
-    let [_, corners, _, coordinates] = before.unwrap_or_default();
+    let [_, corners, _, coordinates, _] = before.unwrap_or_default();
     let (vert, points) = (&tables.vert[corners..], &tables.points[coordinates..]);
     let writing = Question::WriteStl(vert, points, stl_length(vert));
     writing.put_to(&SecondProgram).file
@@ -237,6 +260,59 @@ fn the_example_writes_the_last_level_as_stl() {
     assert_eq!(std::fs::read(&stl).expect("a file"), b"before");
 }
 
+/// A crease for each edge of the pillow, a seam on the cushion, and an edge that
+/// is told twice, of which the last counts.
+#[test]
+fn the_example_takes_creases() {
+    let stl = Path::new(env!("CARGO_TARGET_TMPDIR")).join("creased.stl");
+    for (name, seam) in [
+        ("pillow", &[(0, 1), (1, 2), (2, 10)][..]),
+        ("cushion", &[(203, 3), (206, 3), (209, 4)]),
+        ("pillow", &[(2, 10), (2, 3)]),
+        ("pillow", &[(0, 0)]),
+    ] {
+        let words = seam.iter().map(|(edge, number)| format!("{edge}={number}"));
+        let words: Vec<String> = words.collect();
+        let last = |edge| seam.iter().rfind(|&&(sharp, _)| sharp == edge);
+        let cage = creased(&named(name), |edge| last(edge).map_or(0, |crease| crease.1));
+        let path = repository().join(format!("cages/{name}.cage"));
+        for (depth, number) in [(0, "0"), (1, "1"), (5, "5")] {
+            for (word, weight) in WORDS {
+                let output = run(example(&path, number, word).arg(&stl).args(&words), &[]);
+                assert_eq!(output, run_example(&path, number, word), "{name}");
+                assert!(output.status.success(), "{name}");
+                let written = std::fs::read(&stl).expect("a file");
+                // Not assert_eq, which would print both files.
+                let same = written == stl_at(&cage, depth, weight);
+                assert!(same, "{name} at {depth}, {word}");
+            }
+        }
+    }
+}
+
+#[test]
+fn the_example_tells_wrong_creases() {
+    let stl = Path::new(env!("CARGO_TARGET_TMPDIR")).join("refused.stl");
+    std::fs::write(&stl, "before").expect("written");
+    let no_edge = "example: the cage has no edge of that number\n";
+    for (name, words, status, line) in [
+        ("pillow", &["0=11"][..], 1, "refused 15 0\n"),
+        ("pillow", &["2=255", "1=10"], 1, "refused 15 2\n"),
+        ("triangle", &["1=1"], 1, "refused 15 1\n"),
+        ("triangle", &["3=1"], 2, no_edge),
+        ("pillow", &["0=1", "3=0"], 2, no_edge),
+        ("pillow", &["18446744073709551615=0"], 2, no_edge),
+        ("pillow", &["-1=0"], 2, no_edge),
+    ] {
+        let path = repository().join(format!("cages/{name}.cage"));
+        let output = run(example(&path, "1", "paper").arg(&stl).args(words), &[]);
+        assert_eq!(output.status.code(), Some(status), "{words:?}");
+        assert_eq!(String::from_utf8_lossy(&output.stderr), line, "{words:?}");
+        assert!(output.stdout.is_empty(), "{words:?}");
+    }
+    assert_eq!(std::fs::read(&stl).expect("a file"), b"before");
+}
+
 #[test]
 fn the_example_says_why_there_is_no_stl() {
     let folder = Path::new(env!("CARGO_TARGET_TMPDIR"));
@@ -258,7 +334,7 @@ fn the_example_says_why_there_is_no_stl() {
     }
 }
 
-/// The cushion's levels to depth 6 need 66 MB, and its STL there 59 MB more.
+/// The cushion's levels to depth 6 need 68 MB, and its STL there 59 MB more.
 #[test]
 fn the_example_tells_that_there_is_no_memory() {
     let stl = Path::new(env!("CARGO_TARGET_TMPDIR")).join("no-memory.stl");

@@ -1,20 +1,10 @@
 //! Demand 3 seen from outside: what every level of the host library's output
 //! keeps of the cage, judged by the second program.
 
-use compare::{chosen, handed, named, verdict_with, vertices_of, Vertex, WEIGHTS};
+use compare::{chosen, handed, named, owned, verdict_with, vertices_of, Vertex, WEIGHTS};
 use ryebadger::Refined;
-use second::cage::Cage;
 use second::check::{check_any_size, CageCounts};
 use second::weight::Weight;
-
-fn owned(level: ryebadger::Cage<'_>) -> Cage {
-    Cage {
-        twin: level.twin.to_vec(),
-        vert: level.vert.to_vec(),
-        edge: level.edge.to_vec(),
-        points: level.points.to_vec(),
-    }
-}
 
 /// V − E + F.
 fn characteristic(counts: &CageCounts) -> i64 {
@@ -23,7 +13,7 @@ fn characteristic(counts: &CageCounts) -> i64 {
 
 /// Cages of each kind, and how deep they are refined here: the second program's
 /// check is plain, and slow on large levels.
-const TRIED: [(&str, u64); 11] = [
+const TRIED: [(&str, u64); 14] = [
     ("triangle", 6),
     ("pillow", 6),
     ("pillow-slit", 6),
@@ -35,6 +25,9 @@ const TRIED: [(&str, u64); 11] = [
     ("frame-4x5-disguised", 5),
     ("cushion", 5),
     ("disc-1024", 4),
+    ("creased-number-10-closed", 6),
+    ("creased-number-3-open-disguised", 6),
+    ("creased-pillow-slit-0130", 6),
 ];
 
 /// Each of them that passes 14, with its name.

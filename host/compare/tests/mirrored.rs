@@ -2,8 +2,8 @@
 //! The answer and the tables come out the same, and the points mirrored.
 
 use compare::{
-    accepted, assert_alike, file_of, first_difference, marked_tables, named, refused, room_at,
-    verdict_with, Archive, Question, WEIGHTS,
+    accepted, assert_alike, creased, file_of, first_difference, marked_tables, named, refused,
+    room_at, verdict_with, Archive, Question, PLACES, WEIGHTS,
 };
 use ryebadger::{OwnedCage, Refined};
 use second::cage::{Cage, MARKER};
@@ -22,12 +22,13 @@ fn mirror_of(cage: &Cage, axis: usize) -> Cage {
 }
 
 /// The cells past these lengths.
-fn past(tables: &Cage, [twin, vert, edge, points]: [usize; 4]) -> Cage {
+fn past(tables: &Cage, [twin, vert, edge, points, creases]: [usize; 5]) -> Cage {
     Cage {
         twin: tables.twin[twin..].to_vec(),
         vert: tables.vert[vert..].to_vec(),
         edge: tables.edge[edge..].to_vec(),
         points: tables.points[points..].to_vec(),
+        creases: tables.creases[creases..].to_vec(),
     }
 }
 
@@ -39,14 +40,14 @@ fn assert_mirrored(
     cage: &Cage,
     depth: u64,
     weight: Weight,
-    lengths: [usize; 4],
+    lengths: [usize; 5],
 ) -> (u64, u64) {
     let refined =
         |cage: &Cage| Question::Refine(cage, depth, weight, lengths).put_to(&Archive::default());
     let left = refined(cage);
     // The room, which is 0 on a refusal.
-    let [halfedges, vertices] = [23, 24].map(|at| left.answer[at] as usize);
-    let written = [halfedges, halfedges, halfedges, 3 * vertices];
+    let [halfedges, vertices, edges] = [23, 24, 25].map(|at| left.answer[at] as usize);
+    let written = [halfedges, halfedges, halfedges, 3 * vertices, edges];
     let untouched = past(&marked_tables(lengths), written);
     assert_eq!(past(&left.tables, written), untouched, "{name}");
     for axis in AXES {
@@ -95,7 +96,7 @@ fn every_refused_cage_at_three_depths_and_past_the_limit() {
     for entry in &entries {
         for depth in [0, 1, 6, 7, u64::MAX] {
             for weight in WEIGHTS {
-                let lengths = [40, 41, 42, 43];
+                let lengths = [40, 41, 42, 43, 44];
                 let (number, _) = assert_mirrored(&entry.name, &entry.cage, depth, weight, lengths);
                 assert_ne!(number, 0, "{}", entry.name);
             }
@@ -106,16 +107,16 @@ fn every_refused_cage_at_three_depths_and_past_the_limit() {
 #[test]
 fn room_exact_and_one_short_table_by_table() {
     for name in ["triangle", "pillow", "strip-2", "torus-3x3", "cushion"] {
-        let cage = named(name);
+        let cage = creased(&named(name), |edge| edge as u8 % 11);
         for depth in [0, 1, 3] {
             let exact = room_at(&cage, depth);
             for weight in WEIGHTS {
                 let refined = |lengths| assert_mirrored(name, &cage, depth, weight, lengths);
                 assert_eq!(refined(exact), (0, 0), "{name}");
-                for table in 0..4 {
+                for (table, place) in PLACES.into_iter().enumerate() {
                     let mut short = exact;
                     short[table] -= 1;
-                    assert_eq!(refined(short), (9, table as u64 + 1), "{name}");
+                    assert_eq!(refined(short), (9, place), "{name}");
                 }
             }
         }

@@ -14,7 +14,9 @@ fn an_owned_cage_is_what_the_second_program_reads() {
     for entry in accepted() {
         let file = file_of(&entry.cage);
         let cage = OwnedCage::read(&file).expect(&entry.name);
-        assert_eq!(cage.as_cage(), handed(&entry.cage), "{}", entry.name);
+        let judged = read_cage(&file).expect(&entry.name);
+        assert_eq!(cage.as_cage(), handed(&judged), "{}", entry.name);
+        assert!(cage.creases.iter().all(|&number| number == 0));
         assert_eq!(cage.as_cage().to_file(), Ok(file), "{}", entry.name);
     }
     for bytes in [&b""[..], &[0x10, 6, 0], &[0x11, 6, 0]] {
@@ -40,6 +42,7 @@ fn a_cage_from_triangles_is_what_the_second_program_builds() {
                 assert_eq!(cage.twin, judged.tables.twin, "{name}");
                 assert_eq!(cage.edge, judged.tables.edge, "{name}");
                 assert_eq!((&cage.vert, &cage.points), (vert, points), "{name}");
+                assert_eq!(cage.creases, vec![0; judged.answer[3] as usize], "{name}");
             }
             Err(refusal) => {
                 let numbers = (refusal.number().into(), refusal.place().into());
@@ -91,11 +94,13 @@ fn end_to_end(refined: &Refined) -> second::cage::Cage {
     let vert = levels.iter().map(|level| level.vert).collect::<Vec<_>>();
     let edge = levels.iter().map(|level| level.edge).collect::<Vec<_>>();
     let points = levels.iter().map(|level| level.points).collect::<Vec<_>>();
+    let creases = levels.iter().filter_map(|level| level.creases);
     second::cage::Cage {
         twin: twin.concat(),
         vert: vert.concat(),
         edge: edge.concat(),
         points: points.concat(),
+        creases: creases.collect::<Vec<_>>().concat(),
     }
 }
 
@@ -128,7 +133,7 @@ fn there_is_no_level_past_the_depth() {
     }
 }
 
-/// Refusals 1 to 8 of the cage and the depth, in refining's order.
+/// Refusals 1 to 8 and 15 of the cage and the depth, in refining's order.
 #[test]
 fn refused_cages_and_depths_are_refused_by_number_and_place() {
     let past_the_limit = |name: &str| (name.to_string(), named(name), vec![7, u64::MAX]);
@@ -137,7 +142,7 @@ fn refused_cages_and_depths_are_refused_by_number_and_place() {
     for (name, cage, depths) in refused.chain(["pillow", "cushion"].map(past_the_limit)) {
         for depth in depths {
             for weight in WEIGHTS {
-                let question = Question::Refine(&cage, depth, weight, [0; 4]);
+                let question = Question::Refine(&cage, depth, weight, [0; 5]);
                 let judged = question.put_to(&SecondProgram);
                 let refusal = Refined::new(handed(&cage), depth, chosen(weight));
                 let refusal = refusal.expect_err(&name);

@@ -1,11 +1,11 @@
-//! Refining with either weight: the answer and every cell of the four lent
+//! Refining with either weight: the answer and every cell of the five lent
 //! tables.
 
 use std::collections::{HashMap, HashSet};
 
 use compare::{
-    accepted, assert_alike, named, refused, room_at, verdict_with, vertices_of, Outcome, Question,
-    Vertex, WEIGHTS,
+    accepted, assert_alike, creased, named, refused, room_at, verdict_with, vertices_of, Outcome,
+    Question, Vertex, PLACES, WEIGHTS,
 };
 use second::cage::Cage;
 use second::suite::SuiteCage;
@@ -17,8 +17,8 @@ fn at_every_depth(entry: &SuiteCage) {
     for weight in WEIGHTS {
         let expected = verdict_with(weight, &entry.cage);
         for depth in 0..=6 {
-            let mut longer = [0, 1, 2, 7];
-            longer.rotate_left(depth as usize % 4);
+            let mut longer = [0, 1, 2, 7, 3];
+            longer.rotate_left(depth as usize % 5);
             let room = room_at(&entry.cage, depth);
             let lengths = std::array::from_fn(|table| room[table] + longer[table]);
             let question = Question::Refine(&entry.cage, depth, weight, lengths);
@@ -56,7 +56,7 @@ fn every_refused_cage_at_three_depths_and_past_the_limit() {
     assert!(entries.len() > 150);
     for entry in &entries {
         for depth in [0, 1, 6, 7, u64::MAX] {
-            for lengths in [[40, 41, 42, 43], [0; 4]] {
+            for lengths in [[40, 41, 42, 43, 44], [0; 5]] {
                 for weight in WEIGHTS {
                     let question = Question::Refine(&entry.cage, depth, weight, lengths);
                     let outcome = assert_alike(&entry.name, &question);
@@ -90,10 +90,11 @@ const ROOM_TRIED: [(&str, &[Weight]); 5] = [
     ("disc-33", &[Weight::Short]),
 ];
 
-/// Each of them with its weights at these depths, and the exact room there.
-fn each_room(depths: &[u64], tried: impl Fn(&str, &Cage, u64, Weight, [usize; 4])) {
+/// Each of them, with creases where it has inner edges, with its weights at these
+/// depths, and the exact room there.
+fn each_room(depths: &[u64], tried: impl Fn(&str, &Cage, u64, Weight, [usize; 5])) {
     for (name, weights) in ROOM_TRIED {
-        let cage = named(name);
+        let cage = creased(&named(name), |edge| edge as u8 % 11);
         for &depth in depths {
             for &weight in weights {
                 tried(name, &cage, depth, weight, room_at(&cage, depth));
@@ -112,10 +113,10 @@ fn room_exact_and_one_short_table_by_table() {
                 assert_alike(name, &question).verdict()
             };
             assert_eq!(refined(exact), (0, 0), "{name}");
-            for table in 0..4 {
+            for (table, place) in PLACES.into_iter().enumerate() {
                 let mut short = exact;
                 short[table] -= 1;
-                assert_eq!(refined(short), (9, table as u64 + 1), "{name}");
+                assert_eq!(refined(short), (9, place), "{name}");
             }
         },
     );
@@ -124,16 +125,16 @@ fn room_exact_and_one_short_table_by_table() {
 #[test]
 fn several_tables_short_at_once() {
     each_room(&[0, 1, 3], |name, cage, depth, weight, exact| {
-        // Each of the four tables is enough, one short or empty.
-        for choice in 0..81_usize {
-            let choices = [choice / 27, choice / 9 % 3, choice / 3 % 3, choice % 3];
+        // Each of the five tables is enough, one short or empty.
+        for choice in 0..243_usize {
+            let choices = [81, 27, 9, 3, 1].map(|power| choice / power % 3);
             let lengths = std::array::from_fn(|table| match choices[table] {
                 0 => exact[table],
                 1 => exact[table] - 1,
                 _ => 0,
             });
             let place = choices.iter().position(|&choice| choice != 0);
-            let expected = place.map_or((0, 0), |table| (9, table as u64 + 1));
+            let expected = place.map_or((0, 0), |table| (9, PLACES[table]));
             let question = Question::Refine(cage, depth, weight, lengths);
             assert_eq!(assert_alike(name, &question).verdict(), expected);
         }
@@ -207,6 +208,31 @@ fn the_suite_has_every_valence() {
     }
     for corners in [1, 2, 3, 33, 40, 1_024] {
         assert!(cages(false, true, corners) >= Some(&2), "{corners}");
+    }
+}
+
+/// Creases of every number in closed cages and in open ones; and in small cages
+/// and in large ones vertices with any number of creases, inside and on borders.
+#[test]
+fn the_suite_has_every_kind_of_crease() {
+    let (mut numbers, mut vertices) = (HashSet::new(), HashSet::new());
+    for entry in accepted() {
+        let is_closed = entry.cage.border_count() == 0;
+        numbers.extend(entry.cage.creases.iter().map(|&number| (is_closed, number)));
+        for vertex in vertices_of(&entry.cage) {
+            let creases = vertex.crease_neighbours.len().min(4);
+            vertices.insert((entry.is_large(), vertex.is_on_border(), creases));
+        }
+    }
+    for either in [true, false] {
+        for number in 0..=10 {
+            assert!(numbers.contains(&(either, number)), "{number}");
+        }
+        for creases in 0..=4 {
+            assert!(vertices.contains(&(either, false, creases)), "{creases}");
+            let on_border = vertices.contains(&(either, true, creases));
+            assert_eq!(on_border, creases >= 2, "{creases}");
+        }
     }
 }
 

@@ -26,7 +26,9 @@ fn built(triangles: &[[u32; 3]]) -> Cage {
         vert,
         edge,
         points,
+        ..Cage::default()
     }
+    .without_creases()
 }
 
 /// A hub of so many corners inside a rim, whose vertices come first. Of two
@@ -98,7 +100,10 @@ fn only_at_six_corners_the_weights_are_the_same() {
         let cage = built(&disc(corners));
         let [short, paper] = WEIGHTS.map(|weight| tables(&cage, weight));
         assert_eq!(short.points == paper.points, corners == 6, "{corners}");
-        let without_points = |tables: Cage| (tables.twin, tables.vert, tables.edge);
+        let without_points = |tables| Cage {
+            points: vec![],
+            ..tables
+        };
         assert_eq!(without_points(short), without_points(paper));
     }
 }
@@ -169,6 +174,7 @@ fn valence_comes_after_7_and_before_8() {
         cage.vert.extend([5, 34, 35]);
         cage.edge.extend([66, 67, 68]);
         cage.points.extend([0; 6]);
+        cage.creases.extend([0; 3]);
     });
     let unused = damaged(|cage| cage.points.extend([0; 3]));
     let many = damaged(|cage| cage.points.resize(3 * 2_049, 0));
@@ -185,7 +191,7 @@ fn valence_comes_after_7_and_before_8() {
         (&torn, (1, 0), (1, 0)),
     ] {
         for (weight, expected) in WEIGHTS.into_iter().zip([short, paper]) {
-            let question = Question::Refine(cage, 0, weight, [200; 4]);
+            let question = Question::Refine(cage, 0, weight, [200; 5]);
             assert_eq!(assert_alike("one fault", &question).verdict(), expected);
         }
     }
@@ -196,13 +202,14 @@ fn valence_comes_after_7_and_before_8() {
 fn valence_comes_after_the_depth_and_before_the_room() {
     let cage = built(&disc(33));
     for (depth, lengths, short, paper) in [
-        (0, [99, 99, 99, 102], (0, 0), (14, 33)),
-        (0, [99, 99, 99, 101], (9, 4), (14, 33)),
-        (0, [0; 4], (9, 1), (14, 33)),
+        (0, [99, 99, 99, 102, 66], (0, 0), (14, 33)),
+        (0, [99, 99, 99, 101, 66], (9, 4), (14, 33)),
+        (0, [99, 99, 99, 102, 65], (9, 7), (14, 33)),
+        (0, [0; 5], (9, 1), (14, 33)),
         (1, room_at(&cage, 1), (0, 0), (14, 33)),
-        (6, [99; 4], (9, 1), (14, 33)),
-        (7, [0; 4], (2, 0), (2, 0)),
-        (u64::MAX, [200; 4], (2, 0), (2, 0)),
+        (6, [99; 5], (9, 1), (14, 33)),
+        (7, [0; 5], (2, 0), (2, 0)),
+        (u64::MAX, [200; 5], (2, 0), (2, 0)),
     ] {
         for (weight, expected) in WEIGHTS.into_iter().zip([short, paper]) {
             let question = Question::Refine(&cage, depth, weight, lengths);
@@ -222,7 +229,7 @@ fn no_other_operation_refuses_a_valence() {
     for question in [
         Question::Check(&cage),
         Question::Write(&cage, file.len()),
-        Question::Read(&file, [99, 99, 99, 102]),
+        Question::Read(&file, [99, 99, 99, 102, 0]),
         Question::Build(&cage.vert, &cage.points, [99; 2]),
         Question::WriteStl(&cage.vert, &cage.points, 84 + 50 * 33),
     ] {

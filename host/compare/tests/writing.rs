@@ -1,6 +1,7 @@
 //! Writing: the answer and every byte of the lent buffer.
 
 use compare::{accepted, assert_alike, file_of, named, refused, Question};
+use second::check::check;
 
 #[test]
 fn every_accepted_cages_file_byte_by_byte() {
@@ -23,15 +24,26 @@ fn every_accepted_cages_file_byte_by_byte() {
     }
 }
 
+/// But for those that are refused for their creases alone, which are not looked
+/// at.
 #[test]
 fn every_refused_cage_leaves_the_buffer() {
+    let mut written = 0;
     for entry in refused() {
+        let is_written = check(&entry.cage.clone().without_creases()).is_ok();
+        written += usize::from(is_written);
         for lent in [0, 78, 50_000] {
             let question = Question::Write(&entry.cage, lent);
-            let (number, _) = assert_alike(&entry.name, &question).verdict();
-            assert!((1..=8).contains(&number), "{}", entry.name);
+            let (number, place) = assert_alike(&entry.name, &question).verdict();
+            match (is_written, lent) {
+                (false, _) => assert!((1..=8).contains(&number), "{}", entry.name),
+                (true, 50_000) => assert_eq!((number, place), (0, 0), "{}", entry.name),
+                (true, 0) => assert_eq!((number, place), (9, 5), "{}", entry.name),
+                _ => {}
+            }
         }
     }
+    assert!(written > 10);
 }
 
 #[test]

@@ -32,9 +32,14 @@ pub struct Cage<'a> {
     pub edge: &'a [u32],
     /// x, y, z of each vertex, in 1/1024 mm.
     pub points: &'a [i32],
+    /// For how many levels each edge stays sharp, up to
+    /// [`CREASE_LIMIT`](crate::CREASE_LIMIT), and 0 on a border edge; or nothing,
+    /// which is the same as 0 for each.
+    pub creases: Option<&'a [u8]>,
 }
 
-/// Four lent tables, of any length, for refining or reading to write.
+/// Five lent tables, of any length, for refining to write, and four of them for
+/// reading, which has no creases.
 ///
 /// A table that is lent cannot be handed over a second time:
 ///
@@ -46,6 +51,7 @@ pub struct Cage<'a> {
 ///     vert: &mut cells,
 ///     edge: &mut [0; 3],
 ///     points: &mut points,
+///     creases: &mut [],
 /// };
 /// # let mut twice = twice;
 /// # let _ = read(&[], &mut twice);
@@ -60,6 +66,8 @@ pub struct LentTables<'a> {
     pub edge: &'a mut [u32],
     /// For the points.
     pub points: &'a mut [i32],
+    /// For the creases.
+    pub creases: &'a mut [u8],
 }
 
 /// The tables of a cage, owned.
@@ -73,16 +81,20 @@ pub struct OwnedCage {
     pub edge: Vec<u32>,
     /// x, y, z of each vertex, in 1/1024 mm.
     pub points: Vec<i32>,
+    /// For how many levels each edge stays sharp, up to
+    /// [`CREASE_LIMIT`](crate::CREASE_LIMIT), and 0 on a border edge.
+    pub creases: Vec<u8>,
 }
 
 impl OwnedCage {
-    /// Tables with room for so many halfedges and vertices, every cell 0.
-    pub(crate) fn with_room(halfedges: usize, vertices: usize) -> OwnedCage {
+    /// Tables with room for so many halfedges, vertices and edges, every cell 0.
+    pub(crate) fn with_room(halfedges: usize, vertices: usize, edges: usize) -> OwnedCage {
         OwnedCage {
             twin: vec![0; halfedges],
             vert: vec![0; halfedges],
             edge: vec![0; halfedges],
             points: vec![0; 3 * vertices],
+            creases: vec![0; edges],
         }
     }
 
@@ -93,6 +105,7 @@ impl OwnedCage {
             vert: &self.vert,
             edge: &self.edge,
             points: &self.points,
+            creases: Some(&self.creases),
         }
     }
 
@@ -103,6 +116,7 @@ impl OwnedCage {
             vert: &mut self.vert,
             edge: &mut self.edge,
             points: &mut self.points,
+            creases: &mut self.creases,
         }
     }
 }

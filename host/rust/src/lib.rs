@@ -8,6 +8,7 @@
 //! | To | Call |
 //! |---|---|
 //! | check a cage | [`check`] |
+//! | make edges stay sharp | [`Cage::creases`], one number for each of so many [`edges`] |
 //! | quote the counts of all levels, and the room | [`counts`] |
 //! | refine a cage with a [`Weight`] | [`Refined::new`], or [`refine`] into lent tables |
 //! | get a triangle's corners | [`corners`] |
@@ -16,9 +17,9 @@
 //! | build a cage from plain triangles | [`OwnedCage::from_triangles`], or [`build`] into lent tables |
 //! | write a level as STL | [`Cage::to_stl`], or [`write_stl`] into a lent buffer |
 //!
-//! Nothing here panics on any input. `check`, `counts`, `refine`, `corners`,
-//! `read`, `write`, `build` and `write_stl` allocate nothing; the others end the
-//! program, as Rust does, where memory is short.
+//! Nothing here panics on any input. `check`, `edges`, `counts`, `refine`,
+//! `corners`, `read`, `write`, `build` and `write_stl` allocate nothing; the
+//! others end the program, as Rust does, where memory is short.
 //!
 //! ```
 //! use ryebadger::{OwnedCage, Refined, Weight};
@@ -34,6 +35,7 @@
 //! ```
 
 mod cage;
+mod creases;
 mod operations;
 mod owned;
 mod refusal;
@@ -44,8 +46,9 @@ pub use cage::{
     Cage, LentTables, OwnedCage, COORDINATE_LIMIT, DEPTH_LIMIT, HALFEDGE_LIMIT, LONGEST_TABLE,
     MARKER, VERTEX_LIMIT,
 };
+pub use creases::CREASE_LIMIT;
 pub use operations::{
-    build, check, corners, counts, read, refine, stl_length, write, write_stl, CageCounts,
+    build, check, corners, counts, edges, read, refine, stl_length, write, write_stl, CageCounts,
     FileCounts, LevelCounts, LEVELS,
 };
 pub use owned::{Refined, LONGEST_FILE};

@@ -39,6 +39,9 @@ pub struct LevelCounts {
     /// The sum of V over levels 0 to the depth: a third of the cells needed in
     /// the lent points.
     pub vertex_room: u32,
+    /// The sum of E over levels 0 to the depth: cells needed in the lent
+    /// creases.
+    pub edge_room: u32,
 }
 
 /// H and V of a file that was read.
@@ -50,7 +53,24 @@ pub struct FileCounts {
     pub vertices: u32,
 }
 
-/// The cage check. Gives refusals 1 to 8.
+/// E of any TWIN table: how many halfedges have no twin or a twin with a lower
+/// number, or [`u32::MAX`] where these are more. So many numbers a crease table
+/// has to have. Never refuses.
+///
+/// ```
+/// // Document 01's triangle and pillow.
+/// assert_eq!(ryebadger::edges(&[ryebadger::MARKER; 3]), 3);
+/// assert_eq!(ryebadger::edges(&[5, 4, 3, 2, 1, 0]), 3);
+/// ```
+pub fn edges(twin: &[u32]) -> u32 {
+    let mut answer = [0; sys::EDGES_ANSWER];
+    sys::edges(twin, &mut answer);
+    let [edges] = answer;
+    edges
+}
+
+/// The cage check. Gives refusals 1 to 8, the length of a crease table in 1
+/// after 3 and before 4, and 15 after 6 and before 7.
 ///
 /// ```
 /// use ryebadger::{check, Cage, MARKER};
@@ -60,12 +80,18 @@ pub struct FileCounts {
 ///     vert: &[0, 1, 2],
 ///     edge: &[0, 1, 2],
 ///     points: &[0, 0, 0, 800, 0, 0, 0, 800, 0],
+///     creases: None,
 /// };
 /// assert_eq!(check(triangle)?.borders, 3);
 ///
 /// let stray = Cage { vert: &[0, 1, 3], ..triangle };
 /// let refusal = check(stray).unwrap_err();
 /// assert_eq!(refusal.to_string(), "refusal 4, VERTEX, at place 2");
+///
+/// // Every edge of it is a border.
+/// let creased = Cage { creases: Some(&[0, 1, 0]), ..triangle };
+/// let refusal = check(creased).unwrap_err();
+/// assert_eq!(refusal.to_string(), "refusal 15, CREASE, at place 1");
 /// # Ok::<(), ryebadger::Refusal>(())
 /// ```
 pub fn check(cage: Cage<'_>) -> Result<CageCounts, Refusal> {
@@ -80,6 +106,7 @@ pub fn check(cage: Cage<'_>) -> Result<CageCounts, Refusal> {
 /// // Document 01's P8.
 /// let counts = ryebadger::counts(12, 6, 4, 2)?;
 /// assert_eq!((counts.halfedge_room, counts.vertex_room), (252, 48));
+/// assert_eq!(counts.edge_room, 126);
 /// # Ok::<(), ryebadger::Refusal>(())
 /// ```
 pub fn counts(
@@ -95,8 +122,14 @@ pub fn counts(
 
 /// Refining with a weight: levels 0 to the depth end to end at the front of the
 /// lent tables, level 0 being the cage. Cells past the room are untouched. Gives
-/// refusals 1 to 9 and, with the paper's weight, 14 after 7 and before 8.
-/// [`Refined`](crate::Refined) has the room found and allocated.
+/// [`check`]'s refusals in its order, 9, and with the paper's weight 14 after 7
+/// and before 8. [`Refined`](crate::Refined) has the room found and allocated.
+///
+/// An edge is a crease while its number is above 0 or it is a border edge. Its
+/// two halves carry the number less one, never below 0, and new edges across a
+/// triangle carry 0. An inner crease gets its midpoint. A vertex with two creases
+/// follows the rule of a border vertex along them, with more than two it stays
+/// put, with fewer it is smooth.
 ///
 /// A coordinate is rounded once per level, halves away from zero. So negating
 /// every x of the cage's points, or every y or z, negates exactly those numbers
@@ -128,8 +161,9 @@ pub fn corners(vert: &[u32], triangle: u64) -> Result<[u32; 3], Refusal> {
 }
 
 /// Reading a cage file to the front of the lent tables, without checks 3 to 8.
-/// Cells past H, or past 3V in the points, are untouched. Gives refusals 1, 2
-/// and 9 to 12. [`OwnedCage::read`](crate::OwnedCage::read) allocates.
+/// Cells past H, or past 3V in the points, are untouched, and so are the lent
+/// creases, of which the file has none. Gives refusals 1, 2 and 9 to 12.
+/// [`OwnedCage::read`](crate::OwnedCage::read) allocates.
 pub fn read(file: &[u8], lent: &mut LentTables<'_>) -> Result<FileCounts, Refusal> {
     let mut answer = [0; sys::READ_ANSWER];
     sys::read(file, lent, &mut answer);
@@ -142,8 +176,8 @@ pub fn read(file: &[u8], lent: &mut LentTables<'_>) -> Result<FileCounts, Refusa
 }
 
 /// Writing a cage file to the front of the lent buffer; its length is returned.
-/// Bytes past it are untouched. Gives refusals 1 to 9.
-/// [`Cage::to_file`] allocates.
+/// Bytes past it are untouched. The file has no place for creases: they are not
+/// looked at. Gives refusals 1 to 9. [`Cage::to_file`] allocates.
 pub fn write(cage: Cage<'_>, lent_file: &mut [u8]) -> Result<usize, Refusal> {
     let mut answer = [0; sys::WRITE_ANSWER];
     sys::write(cage, lent_file, &mut answer);
@@ -243,5 +277,6 @@ fn counted(answer: &[u32; sys::COUNTS_ANSWER]) -> Result<LevelCounts, Refusal> {
         vertices: of_levels(2 + 2 * LEVELS),
         halfedge_room: answer[2 + 3 * LEVELS],
         vertex_room: answer[3 + 3 * LEVELS],
+        edge_room: answer[4 + 3 * LEVELS],
     })
 }

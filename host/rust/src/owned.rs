@@ -5,8 +5,8 @@ use std::ops::Range;
 
 use crate::cage::{HALFEDGE_LIMIT, LONGEST_TABLE, VERTEX_LIMIT};
 use crate::operations::{
-    build, check, counts, read, refine, stl_length, write, write_stl, CageCounts, LevelCounts,
-    LEVELS,
+    build, check, counts, edges, read, refine, stl_length, write, write_stl, CageCounts,
+    LevelCounts, LEVELS,
 };
 use crate::{Cage, OwnedCage, Refusal, Weight};
 
@@ -14,22 +14,23 @@ use crate::{Cage, OwnedCage, Refusal, Weight};
 pub const LONGEST_FILE: usize = 24 + 6 * HALFEDGE_LIMIT + 12 * VERTEX_LIMIT;
 
 impl OwnedCage {
-    /// Reads a cage file, without checks 3 to 8. Gives refusals 1, 2 and 10 to
-    /// 12.
+    /// Reads a cage file, without checks 3 to 8. The file has no creases: there
+    /// is a 0 for each edge. Gives refusals 1, 2 and 10 to 12.
     pub fn read(file: &[u8]) -> Result<OwnedCage, Refusal> {
-        let mut cage = OwnedCage::with_room(HALFEDGE_LIMIT, VERTEX_LIMIT);
+        let mut cage = OwnedCage::with_room(HALFEDGE_LIMIT, VERTEX_LIMIT, 0);
         let found = read(file, &mut cage.lend())?;
         let (halfedges, vertices) = (found.halfedges as usize, found.vertices as usize);
         cage.twin.truncate(halfedges);
         cage.vert.truncate(halfedges);
         cage.edge.truncate(halfedges);
         cage.points.truncate(3 * vertices);
+        cage.creases = no_creases(&cage.twin);
         Ok(cage)
     }
 
     /// Builds a cage from plain triangles: three corner numbers for each, and
-    /// x, y, z of each vertex. Gives refusals 1, 2, 13, 4, 5, 7 and 8, in this
-    /// order.
+    /// x, y, z of each vertex. No edge of it is a crease. Gives refusals 1, 2,
+    /// 13, 4, 5, 7 and 8, in this order.
     ///
     /// ```
     /// use ryebadger::{OwnedCage, Refined, Weight};
@@ -52,6 +53,7 @@ impl OwnedCage {
         let (mut twin, mut edge) = (vec![0; halfedges], vec![0; halfedges]);
         build(vert, points, &mut twin, &mut edge)?;
         Ok(OwnedCage {
+            creases: no_creases(&twin),
             twin,
             vert: vert.to_vec(),
             edge,
@@ -60,8 +62,14 @@ impl OwnedCage {
     }
 }
 
+/// A zero for each edge.
+fn no_creases(twin: &[u32]) -> Vec<u8> {
+    vec![0; edges(twin) as usize]
+}
+
 impl Cage<'_> {
-    /// The cage file of this cage. Gives refusals 1 to 8.
+    /// The cage file of this cage, which has no place for creases: they are not
+    /// looked at. Gives refusals 1 to 8.
     pub fn to_file(self) -> Result<Vec<u8>, Refusal> {
         let mut file = vec![0; LONGEST_FILE];
         let length = write(self, &mut file)?;
@@ -104,6 +112,7 @@ impl Cage<'_> {
 ///     vert: &[0, 1, 2],
 ///     edge: &[0, 1, 2],
 ///     points: &[0, 0, 0, 800, 0, 0, 0, 800, 0],
+///     creases: None,
 /// };
 /// let refined = Refined::new(triangle, 6, Weight::Short)?;
 /// let level = refined.level(1).unwrap();
@@ -120,6 +129,27 @@ impl Cage<'_> {
 /// }
 /// # Ok::<(), ryebadger::Refusal>(())
 /// ```
+///
+/// An edge with a number stays sharp for as many levels:
+///
+/// ```
+/// use ryebadger::{OwnedCage, Refined, Weight};
+///
+/// let triangles = [[0, 1, 2], [0, 2, 3], [0, 3, 1], [1, 3, 2]];
+/// let points = [[0, 0, 0], [900, 0, 0], [0, 900, 0], [0, 0, 900]];
+/// let mut cage = OwnedCage::from_triangles(triangles.as_flattened(), points.as_flattened())?;
+/// // The edge of halfedge 0, from vertex 0 to vertex 1.
+/// let seam = cage.edge[0] as usize;
+/// cage.creases[seam] = 1;
+/// let refined = Refined::new(cage.as_cage(), 2, Weight::Paper)?;
+///
+/// // It gets its midpoint. The numbers of its halves are less by one.
+/// let level = refined.level(1).unwrap();
+/// let middle = 3 * (4 + seam);
+/// assert_eq!(level.points[middle..middle + 3], [450, 0, 0]);
+/// assert_eq!(level.creases.unwrap()[2 * seam..2 * seam + 2], [0, 0]);
+/// # Ok::<(), ryebadger::Refusal>(())
+/// ```
 #[derive(Clone, Debug, PartialEq, Eq)]
 pub struct Refined {
     tables: OwnedCage,
@@ -128,13 +158,13 @@ pub struct Refined {
 }
 
 impl Refined {
-    /// Quotes the room, allocates it, and refines with a weight. Gives refusals
-    /// 1 to 8 and, with the paper's weight, 14 after 7 and before 8.
+    /// Quotes the room, allocates it, and refines with a weight. Gives
+    /// [`refine`]'s refusals but 9.
     pub fn new(cage: Cage<'_>, depth: u64, weight: Weight) -> Result<Refined, Refusal> {
         // Where the quote is refused so is refining, which has all checks in
         // their order; it needs no room for that.
-        let (halfedges, vertices) = quoted_room(cage, depth).unwrap_or_default();
-        let mut tables = OwnedCage::with_room(halfedges, vertices);
+        let [halfedges, vertices, edges] = quoted_room(cage, depth).unwrap_or_default();
+        let mut tables = OwnedCage::with_room(halfedges, vertices, edges);
         let counts = refine(cage, depth, weight, &mut tables.lend())?;
         Ok(Refined {
             tables,
@@ -153,19 +183,21 @@ impl Refined {
         &self.counts
     }
 
-    /// The four tables of a level, or nothing past the depth.
+    /// The five tables of a level, or nothing past the depth.
     pub fn level(&self, level: usize) -> Option<Cage<'_>> {
         if level > self.depth {
             return None;
         }
         let halfedges = cells_of(&self.counts.halfedges, level)?;
         let vertices = cells_of(&self.counts.vertices, level)?;
+        let edges = cells_of(&self.counts.edges, level)?;
         let points = 3 * vertices.start..3 * vertices.end;
         Some(Cage {
             twin: self.tables.twin.get(halfedges.clone())?,
             vert: self.tables.vert.get(halfedges.clone())?,
             edge: self.tables.edge.get(halfedges)?,
             points: self.tables.points.get(points)?,
+            creases: Some(self.tables.creases.get(edges)?),
         })
     }
 
@@ -175,8 +207,8 @@ impl Refined {
     }
 }
 
-/// The sums of H and of V over levels 0 to the depth.
-fn quoted_room(cage: Cage<'_>, depth: u64) -> Result<(usize, usize), Refusal> {
+/// The sums of H, of V and of E over levels 0 to the depth.
+fn quoted_room(cage: Cage<'_>, depth: u64) -> Result<[usize; 3], Refusal> {
     let CageCounts {
         halfedges,
         edges,
@@ -184,7 +216,8 @@ fn quoted_room(cage: Cage<'_>, depth: u64) -> Result<(usize, usize), Refusal> {
         ..
     } = check(cage)?;
     let quoted = counts(halfedges.into(), edges.into(), vertices.into(), depth)?;
-    Ok((quoted.halfedge_room as usize, quoted.vertex_room as usize))
+    let sums = [quoted.halfedge_room, quoted.vertex_room, quoted.edge_room];
+    Ok(sums.map(|sum| sum as usize))
 }
 
 /// Where a level stands in levels that lie end to end.

@@ -77,6 +77,11 @@ pub enum Refusal {
         /// The lowest such vertex.
         vertex: u32,
     },
+    /// 15: the number of a crease is out of range, or is not 0 on a border edge.
+    Crease {
+        /// The lowest such edge.
+        edge: u32,
+    },
     /// A number or a place that the documents do not have. The proved archive
     /// never gives it.
     Unknown {
@@ -102,6 +107,8 @@ pub enum Table {
     File = 5,
     /// 6
     Stl = 6,
+    /// 7
+    Creases = 7,
 }
 
 impl Refusal {
@@ -124,11 +131,15 @@ impl Refusal {
             },
             (9, 5) => Refusal::Room { table: Table::File },
             (9, 6) => Refusal::Room { table: Table::Stl },
+            (9, 7) => Refusal::Room {
+                table: Table::Creases,
+            },
             (10, offset) => Refusal::Short { offset },
             (11, offset) => Refusal::Field { offset },
             (12, offset) => Refusal::Extra { offset },
             (13, halfedge) => Refusal::Doubled { halfedge },
             (14, vertex) => Refusal::Valence { vertex },
+            (15, edge) => Refusal::Crease { edge },
             _ => Refusal::Unknown { number, place },
         }
     }
@@ -150,6 +161,7 @@ impl Refusal {
             Refusal::Extra { offset } => (12, offset, "EXTRA"),
             Refusal::Doubled { halfedge } => (13, halfedge, "DOUBLED"),
             Refusal::Valence { vertex } => (14, vertex, "VALENCE"),
+            Refusal::Crease { edge } => (15, edge, "CREASE"),
             Refusal::Unknown { number, place } => (number, place, "UNKNOWN"),
         }
     }
@@ -187,8 +199,8 @@ mod tests {
     /// have.
     #[test]
     fn number_and_place_are_kept() {
-        for number in 1..=15 {
-            for place in [0, 1, 2, 3, 4, 5, 6, 7, 43_032, u32::MAX] {
+        for number in 1..=16 {
+            for place in [0, 1, 2, 3, 4, 5, 6, 7, 8, 43_032, u32::MAX] {
                 let refusal = Refusal::told(number, place);
                 assert_eq!((refusal.number(), refusal.place()), (number, place));
             }
@@ -204,11 +216,12 @@ mod tests {
             Table::Points,
             Table::File,
             Table::Stl,
+            Table::Creases,
         ];
         for (place, table) in (1..).zip(tables) {
             assert_eq!(Refusal::told(9, place), Refusal::Room { table });
         }
-        for place in [0, 7] {
+        for place in [0, 8] {
             let unknown = Refusal::Unknown { number: 9, place };
             assert_eq!(Refusal::told(9, place), unknown);
         }
@@ -218,7 +231,7 @@ mod tests {
     fn names_stand_in_the_documents_order() {
         let names = [
             "SHAPE", "LIMIT", "TWIN", "VERTEX", "UNUSED", "EDGE", "FAN", "POINT", "ROOM", "SHORT",
-            "FIELD", "EXTRA", "DOUBLED", "VALENCE",
+            "FIELD", "EXTRA", "DOUBLED", "VALENCE", "CREASE",
         ];
         for (number, name) in (1..).zip(names) {
             let place = u32::from(number == 9);

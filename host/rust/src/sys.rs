@@ -1,8 +1,9 @@
 //! The exported functions of the proved archive, each behind a safe one that
 //! takes slices and fills a raw answer. All unsafe code of this crate is here.
 //!
-//! An answer starts with the number and the place; the values that follow are
-//! those of `host/ryebadger.h`. All of it is written, whatever it held.
+//! An answer but that of [`edges`] starts with the number and the place; the
+//! values that follow are those of `host/ryebadger.h`. All of it is written,
+//! whatever it held.
 
 #![allow(unsafe_code)]
 
@@ -15,9 +16,13 @@ compile_error!("the archive takes lengths of 64 bits");
 /// place, H, E, F, V and B.
 pub const CHECK_ANSWER: usize = 7;
 
+/// The length of the answer that is E alone.
+pub const EDGES_ANSWER: usize = 1;
+
 /// The length of the count question's answer, which refining gives too: number,
-/// place, seven H, seven E, seven V, and the room in halfedges and in vertices.
-pub const COUNTS_ANSWER: usize = 25;
+/// place, seven H, seven E, seven V, and the room in halfedges, in vertices and
+/// in edges.
+pub const COUNTS_ANSWER: usize = 26;
 
 /// The length of the corner question's answer: number, place, three corners.
 pub const CORNERS_ANSWER: usize = 5;
@@ -34,15 +39,19 @@ extern "C" {
     fn ryebadger_check(
         twin: *const u32, twin_length: usize, vert: *const u32, vert_length: usize,
         edge: *const u32, edge_length: usize, points: *const i32, points_length: usize,
+        creases: *const u8, creases_length: usize,
         answer: *mut u32,
     );
+    fn ryebadger_edges(twin: *const u32, twin_length: usize, answer: *mut u32);
     fn ryebadger_counts(halfedges: u64, edges: u64, vertices: u64, depth: u64, answer: *mut u32);
     fn ryebadger_refine(
         twin: *const u32, twin_length: usize, vert: *const u32, vert_length: usize,
         edge: *const u32, edge_length: usize, points: *const i32, points_length: usize,
+        creases: *const u8, creases_length: usize,
         depth: u64, weight: u32,
         lent_twin: *mut u32, lent_twin_length: usize, lent_vert: *mut u32, lent_vert_length: usize,
         lent_edge: *mut u32, lent_edge_length: usize, lent_points: *mut i32, lent_points_length: usize,
+        lent_creases: *mut u8, lent_creases_length: usize,
         answer: *mut u32,
     );
     fn ryebadger_corners(vert: *const u32, vert_length: usize, triangle: u64, answer: *mut u32);
@@ -78,13 +87,20 @@ extern "C" {
 /// The cage check.
 #[rustfmt::skip]
 pub fn check(cage: Cage<'_>, answer: &mut [u32; CHECK_ANSWER]) {
+    let creases = cage.crease_table();
     unsafe {
         ryebadger_check(
             cage.twin.as_ptr(), cage.twin.len(), cage.vert.as_ptr(), cage.vert.len(),
             cage.edge.as_ptr(), cage.edge.len(), cage.points.as_ptr(), cage.points.len(),
+            creases.as_ptr(), creases.len(),
             answer.as_mut_ptr(),
         );
     }
+}
+
+/// E of any TWIN table.
+pub fn edges(twin: &[u32], answer: &mut [u32; EDGES_ANSWER]) {
+    unsafe { ryebadger_edges(twin.as_ptr(), twin.len(), answer.as_mut_ptr()) }
 }
 
 /// The count question.
@@ -108,13 +124,16 @@ pub fn refine(
     lent: &mut LentTables<'_>,
     answer: &mut [u32; COUNTS_ANSWER],
 ) {
+    let creases = cage.crease_table();
     unsafe {
         ryebadger_refine(
             cage.twin.as_ptr(), cage.twin.len(), cage.vert.as_ptr(), cage.vert.len(),
             cage.edge.as_ptr(), cage.edge.len(), cage.points.as_ptr(), cage.points.len(),
+            creases.as_ptr(), creases.len(),
             depth, weight,
             lent.twin.as_mut_ptr(), lent.twin.len(), lent.vert.as_mut_ptr(), lent.vert.len(),
             lent.edge.as_mut_ptr(), lent.edge.len(), lent.points.as_mut_ptr(), lent.points.len(),
+            lent.creases.as_mut_ptr(), lent.creases.len(),
             answer.as_mut_ptr(),
         );
     }

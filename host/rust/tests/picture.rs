@@ -2,13 +2,16 @@
 
 #[path = "../examples/picture/drawing.rs"]
 mod drawing;
+#[path = "../examples/picture/seam.rs"]
+mod seam;
 
 use ryebadger::{OwnedCage, Refined, Weight};
 
 #[test]
 fn the_picture_of_the_levels_is_up_to_date() {
     let file = include_bytes!("../../../cages/coarse-cushion.cage");
-    let cage = OwnedCage::read(file).expect("a cage file");
+    let mut cage = OwnedCage::read(file).expect("a cage file");
+    seam::sew(&mut cage).expect("accepted");
     let refined = Refined::new(cage.as_cage(), 3, Weight::Short).expect("accepted");
     // Not assert_eq, which would print both pictures.
     let drawn = drawing::svg(&refined) == include_str!("../../../docs/levels.svg");

@@ -1,4 +1,5 @@
-//! Document 01, "The cage file": reading, front to back.
+//! Document 01, "The cage file": reading, front to back. As document 02, §6 has
+//! it, a file of form 1 counts as all zeros, of which nothing is written.
 
 use super::{
     EDGE_TAG, END_TAG, FIRST_TAG, FORM, HEAD_LENGTH, NO_TWIN, POINTS_TAG, TWIN_TAG, VERT_TAG,
@@ -27,7 +28,8 @@ pub fn read_cage_file(file: &[u8], lent: &mut LentTables) -> Result<FileCounts, 
     Ok(counts)
 }
 
-/// Reads a cage file where room is no question: refusals 1, 2 and 10 to 12.
+/// Reads a cage file where room is no question: refusals 1, 2 and 10 to 12. The
+/// cage has a 0 for each edge.
 pub fn read_cage(file: &[u8]) -> Result<Cage, Refusal> {
     let mut fields = Fields {
         unread: file,
@@ -39,10 +41,11 @@ pub fn read_cage(file: &[u8]) -> Result<Cage, Refusal> {
         vert: fields.u16_numbers(VERT_TAG, h)?.map(u32::from).collect(),
         edge: fields.u16_numbers(EDGE_TAG, h)?.map(u32::from).collect(),
         points: fields.points(v)?,
+        ..Cage::default()
     };
     fields.payload(END_TAG, 0)?;
     refuse_if(!fields.unread.is_empty(), EXTRA, fields.offset)?;
-    Ok(cage)
+    Ok(cage.without_creases())
 }
 
 /// The first field: the form, then H and V.

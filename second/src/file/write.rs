@@ -1,17 +1,17 @@
-//! Document 01, "The cage file": writing.
+//! Document 01, "The cage file": writing, which takes no creases.
 
 use super::{EDGE_TAG, END_TAG, FIRST_TAG, FORM, NO_TWIN, POINTS_TAG, TWIN_TAG, VERT_TAG};
 use crate::cage::Cage;
-use crate::check::check;
+use crate::check::check_without_creases;
 use crate::refusal::{Refusal, ROOM};
 
 /// The place of the file buffer in refusal 9.
 const FILE_PLACE: usize = 5;
 
 /// Writes a cage file to the front of a lent buffer: refusals 1 to 9, or the
-/// file's length.
+/// file's length. The crease table of the cage is not looked at.
 pub fn write_cage_file(cage: &Cage, lent: &mut [u8]) -> Result<u64, Refusal> {
-    check(cage)?;
+    check_without_creases(cage)?;
     let file = file_of(cage);
     let part = lent
         .get_mut(..file.len())

@@ -1,8 +1,10 @@
 //! For trying what document 01 says: count questions and corner questions; and
-//! what document 02 says: plain triangles, to be built and to be written as STL.
+//! what document 02 says: plain triangles, to be built and to be written as STL,
+//! and TWIN tables whose edges are to be counted.
 
 pub mod corners;
 pub mod counts;
+pub mod edges;
 mod plain;
 pub mod stl;
 pub mod triangles;

@@ -1,26 +1,64 @@
-//! For trying what document 01 says in "Why a cage is sent back": accepted
-//! cages with one cell changed or two cells exchanged, whatever the answer.
+//! For trying what document 01 says in "Why a cage is sent back", and document
+//! 02 in "Edges that stay sharp": accepted cages with one cell changed or two
+//! cells exchanged, whatever the answer.
 
 use crate::cage::{Cage, COORDINATE_LIMIT, MARKER};
+use crate::creases::CREASE_LIMIT;
 use crate::draw::Draw;
 
 /// How often each accepted cage of at most this many halfedges is changed.
 const CHANGES: usize = 5;
 const MOST_HALFEDGES: usize = 60;
 
-/// Each changed cage with its name.
+/// How often each of them that has creases is changed.
+const CREASE_CHANGES: usize = 2;
+
+/// Cages without creases, each changed cage with its name.
 pub(super) fn changed_cages(accepted: &[(String, Cage)]) -> Vec<(String, Cage)> {
     let draw = &mut Draw::new(8);
+    let change = |cage: &Cage| changed(cage, draw).without_creases();
+    several_of_each(accepted, CHANGES, change)
+}
+
+/// Cages with creases, each changed cage with its name. Their creases stay as
+/// they are where another table is changed.
+pub(super) fn changed_creases(accepted: &[(String, Cage)]) -> Vec<(String, Cage)> {
+    let draw = &mut Draw::new(60);
+    let change = |cage: &Cage| match draw.once_in(3) {
+        true => changed(cage, draw),
+        false => with_changed_creases(cage, draw),
+    };
+    several_of_each(accepted, CREASE_CHANGES, change)
+}
+
+fn several_of_each(
+    accepted: &[(String, Cage)],
+    count: usize,
+    mut change: impl FnMut(&Cage) -> Cage,
+) -> Vec<(String, Cage)> {
     let mut cages = Vec::new();
     for (name, cage) in accepted {
         if cage.halfedge_count() <= MOST_HALFEDGES {
-            cages.extend((0..CHANGES).map(|number| {
+            cages.extend((0..count).map(|number| {
                 let name = format!("{name}-changed-{number}");
-                (name, changed(cage, draw))
+                (name, change(cage))
             }));
         }
     }
     cages
+}
+
+/// The cage with a change in its crease table, now and then of its length.
+fn with_changed_creases(cage: &Cage, draw: &mut Draw) -> Cage {
+    let mut changed = cage.clone();
+    let numbers = [0, 1, CREASE_LIMIT, CREASE_LIMIT + 1, draw.number() as u8];
+    let length = changed.creases.len();
+    match draw.below(8) {
+        0 => changed.creases.resize(length + 1, draw.choice(0, &numbers)),
+        1 => changed.creases.truncate(draw.place(length)),
+        _ => change_table(&mut changed.creases, &numbers, draw),
+    }
+    changed
 }
 
 fn changed(cage: &Cage, draw: &mut Draw) -> Cage {

@@ -21,6 +21,9 @@ pub(super) fn disguised(cage: &Cage, seed: u64) -> Cage {
     for (point, &new) in cage.points.chunks(3).zip(&new_vertex) {
         disguised.points[3 * new..3 * new + 3].copy_from_slice(point);
     }
+    for (&number, &new) in cage.creases.iter().zip(&new_edge) {
+        disguised.creases[new] = number;
+    }
     disguised
 }
 

@@ -11,13 +11,13 @@ use crate::weight::{paper_part, Weight, VALENCES, WHOLE};
 /// A coordinate before it is rounded: so many halves, and so many steps above
 /// them. A step is the least by which two numerators of a rule differ, but for
 /// whole numbers.
-type Target = (i64, i64);
+pub(super) type Target = (i64, i64);
 
 /// One target to an axis. Together they are halves of either sign whose whole part
 /// is even or odd, a number one step nearer to zero than a half and one that is
 /// one step farther from it. Either three give away every other rounding.
-const FIRST: [Target; 3] = [(1, 0), (-3, 0), (1, -1)];
-const SECOND: [Target; 3] = [(-1, 0), (3, 0), (-3, -1)];
+pub(super) const FIRST: [Target; 3] = [(1, 0), (-3, 0), (1, -1)];
+pub(super) const SECOND: [Target; 3] = [(-1, 0), (3, 0), (-3, -1)];
 
 /// Each cage with its name.
 pub(super) fn halves_cages() -> Vec<(String, Cage)> {
@@ -54,21 +54,21 @@ fn edge_and_border_cages() -> Vec<(String, Cage)> {
 
 /// A point rule for one coordinate: v, and n others of sum s, go to
 /// ((denominator − n·part)·v + part·s)/denominator.
-struct Rule {
+pub(super) struct Rule {
     others: i64,
     part: i64,
     denominator: i64,
 }
 
 /// (a+b)/2.
-const BORDER_EDGE: Rule = Rule {
+pub(super) const BORDER_EDGE: Rule = Rule {
     others: 1,
     part: 1,
     denominator: 2,
 };
 
 /// (6v+a+b)/8.
-const BORDER_VERTEX: Rule = Rule {
+pub(super) const BORDER_VERTEX: Rule = Rule {
     others: 2,
     part: 1,
     denominator: 8,
@@ -96,7 +96,7 @@ impl Rule {
 
     /// The cage with points that the rule takes to these targets. Its first
     /// vertices are the others of the rule, and all after them lie at v.
-    fn placed(&self, cage: &Cage, targets: [Target; 3]) -> Cage {
+    pub(super) fn placed(&self, cage: &Cage, targets: [Target; 3]) -> Cage {
         let axes = targets.map(|target| self.own_and_sum(target));
         let vertices = 0..cage.vertex_count() as i64;
         let points = vertices.flat_map(|vertex| {

@@ -2,6 +2,7 @@
 //! and those to send back.
 
 mod changed;
+mod creased;
 mod cushion;
 mod damaged;
 mod disguise;
@@ -39,12 +40,17 @@ impl SuiteCage {
 
 /// The whole suite, the accepted cages first. No two have the same name.
 pub fn suite() -> Vec<SuiteCage> {
-    let shaped = shaped_cages();
-    let unforeseen = [drawn::refused_cages(), changed::changed_cages(&shaped)].concat();
+    let drawn = drawn::accepted_cages();
+    let (shaped, creased) = (shaped_cages(&drawn), creased_cages(&drawn));
+    let unforeseen = [
+        drawn::refused_cages(),
+        changed::changed_cages(&shaped),
+        changed::changed_creases(&creased),
+    ];
     [
-        accepted(shaped),
+        accepted(shaped, creased),
         damaged::damaged_cages(),
-        entries(unforeseen, Expected::Unforeseen),
+        entries(unforeseen.concat(), Expected::Unforeseen),
     ]
     .concat()
 }
@@ -52,23 +58,30 @@ pub fn suite() -> Vec<SuiteCage> {
 /// The cages that have to be accepted: each as it was built, and each again
 /// under other numbers.
 pub fn accepted_cages() -> Vec<SuiteCage> {
-    accepted(shaped_cages())
+    let drawn = drawn::accepted_cages();
+    accepted(shaped_cages(&drawn), creased_cages(&drawn))
 }
 
-/// These cages, then those that are there for their points alone.
-fn accepted(shaped: Vec<(String, Cage)>) -> Vec<SuiteCage> {
+/// The cages without creases, those that are there for their points alone after
+/// the others; then the cages with creases.
+fn accepted(shaped: Vec<(String, Cage)>, creased: Vec<(String, Cage)>) -> Vec<SuiteCage> {
     let halves = with_disguised(halves::halves_cages());
-    entries([shaped, halves].concat(), Expected::Accepted)
+    entries([shaped, halves, creased].concat(), Expected::Accepted)
 }
 
-/// The accepted cages that are there for their tables too.
-fn shaped_cages() -> Vec<(String, Cage)> {
+/// The accepted cages without creases that are there for their tables too.
+fn shaped_cages(drawn: &[(String, Cage)]) -> Vec<(String, Cage)> {
     let built = [
         valid::built_cages(),
-        drawn::accepted_cages(),
+        drawn.to_vec(),
         valences::valence_cages(),
     ];
     with_disguised(built.concat())
+}
+
+/// The accepted cages with creases.
+fn creased_cages(drawn: &[(String, Cage)]) -> Vec<(String, Cage)> {
+    with_disguised(creased::creased_cages(drawn))
 }
 
 /// Each cage as it was built, then each again under other numbers.

@@ -17,13 +17,14 @@ pub const WEIGHTS: [Weight; 2] = [Weight::Short, Weight::Paper];
 
 /// Tables of these lengths, each cell of which can be told from its
 /// neighbours, so that any change shows.
-pub fn lendable(lengths: [usize; 4]) -> Cage {
+pub fn lendable(lengths: [usize; 5]) -> Cage {
     let cells = |salt: u32, length: usize| (0..length as u32).map(move |at| at ^ salt).collect();
     Cage {
         twin: cells(0xAAAA_0000, lengths[0]),
         vert: cells(0xBBBB_0000, lengths[1]),
         edge: cells(0xCCCC_0000, lengths[2]),
         points: (0..lengths[3] as i32).map(|at| -5 - at).collect(),
+        creases: (0..lengths[4]).map(|at| 100 + (at % 150) as u8).collect(),
     }
 }
 
@@ -33,6 +34,7 @@ pub fn lend(tables: &mut Cage) -> LentTables<'_> {
         vert: &mut tables.vert,
         edge: &mut tables.edge,
         points: &mut tables.points,
+        creases: &mut tables.creases,
     }
 }
 
@@ -41,7 +43,7 @@ pub fn refined_into(
     cage: &Cage,
     depth: u64,
     weight: Weight,
-    lengths: [usize; 4],
+    lengths: [usize; 5],
 ) -> Result<(LevelCounts, Cage), Refusal> {
     let before = lendable(lengths);
     let mut tables = before.clone();
@@ -52,11 +54,23 @@ pub fn refined_into(
     answer.map(|counts| (counts, tables))
 }
 
-/// The lengths that levels 0 to the depth need.
-pub fn room(counts: &LevelCounts) -> [usize; 4] {
-    let h_room = counts.halfedge_room as usize;
-    [h_room, h_room, h_room, 3 * counts.vertex_room as usize]
+/// What refining answers at a depth above its limit: 2, unless the shape is wrong.
+/// A crease table of a wrong length is found only after that.
+pub fn refusal_of_the_depth(cage: &Cage) -> Refusal {
+    let refusal = second::check::check(&cage.clone().without_creases()).err();
+    let wrong_shape = refusal.filter(|refusal| refusal.number == 1);
+    wrong_shape.unwrap_or(Refusal::new(2, 0))
 }
+
+/// The lengths that levels 0 to the depth need.
+pub fn room(counts: &LevelCounts) -> [usize; 5] {
+    let h_room = counts.halfedge_room as usize;
+    let (v_room, e_room) = (counts.vertex_room as usize, counts.edge_room as usize);
+    [h_room, h_room, h_room, 3 * v_room, e_room]
+}
+
+/// The place of each of the lengths in refusal 9.
+pub const ROOM_PLACES: [usize; 5] = [1, 2, 3, 4, 7];
 
 /// Levels 0 to the depth of an accepted cage, one by one, with the short weight.
 pub fn levels(cage: &Cage, depth: u64) -> Vec<Cage> {
@@ -75,18 +89,20 @@ pub fn levels_with(weight: Weight, cage: &Cage, depth: u64) -> Vec<Cage> {
 }
 
 fn cut_into_levels(tables: &Cage, counts: &LevelCounts, depth: u64) -> Vec<Cage> {
-    let (mut h, mut p) = (0, 0);
+    let (mut h, mut p, mut e) = (0, 0, 0);
     let mut levels = Vec::new();
     for level in 0..=depth as usize {
         let h_end = h + counts.halfedges[level] as usize;
         let p_end = p + 3 * counts.vertices[level] as usize;
+        let e_end = e + counts.edges[level] as usize;
         levels.push(Cage {
             twin: tables.twin[h..h_end].to_vec(),
             vert: tables.vert[h..h_end].to_vec(),
             edge: tables.edge[h..h_end].to_vec(),
             points: tables.points[p..p_end].to_vec(),
+            creases: tables.creases[e..e_end].to_vec(),
         });
-        (h, p) = (h_end, p_end);
+        (h, p, e) = (h_end, p_end, e_end);
     }
     levels
 }
@@ -98,6 +114,7 @@ pub fn triangle(points: [i32; 9]) -> Cage {
         vert: vec![0, 1, 2],
         edge: vec![0, 1, 2],
         points: points.to_vec(),
+        creases: vec![0; 3],
     }
 }
 
@@ -113,6 +130,7 @@ pub fn document_pillow() -> Cage {
         vert: vec![0, 1, 2, 0, 2, 1],
         edge: vec![0, 1, 2, 2, 1, 0],
         points: vec![0, 0, 0, 16, 0, 0, 0, 16, 0],
+        creases: vec![0; 3],
     }
 }
 
@@ -146,6 +164,24 @@ pub fn corners(level: &Cage) -> Vec<(usize, bool)> {
     corners
 }
 
+/// The far ends of each vertex's creases, a far end for each crease.
+pub fn creases_at(level: &Cage) -> Vec<Vec<usize>> {
+    let mut far_ends = vec![Vec::new(); level.vertex_count()];
+    for (h, &twin) in level.twin.iter().enumerate() {
+        let after = h - h % 3 + (h + 1) % 3;
+        let (from, to) = (level.vert[h] as usize, level.vert[after] as usize);
+        let is_border = twin == MARKER;
+        if is_border || level.creases[level.edge[h] as usize] > 0 {
+            far_ends[from].push(to);
+        }
+        // No twin tells the other end of it.
+        if is_border {
+            far_ends[to].push(from);
+        }
+    }
+    far_ends
+}
+
 /// The lowest inner vertex of more than 32 corners.
 pub fn lowest_of_many_corners(level: &Cage) -> Option<usize> {
     let corners = corners(level);
@@ -153,7 +189,7 @@ pub fn lowest_of_many_corners(level: &Cage) -> Option<usize> {
     corners.iter().position(is_such)
 }
 
-/// One coordinate of an inner vertex: its index in the points, its corners, the
+/// One coordinate of a smooth vertex: its index in the points, its corners, the
 /// coordinate itself and the sum over the spokes' far ends.
 pub struct CornerSum {
     pub index: usize,
@@ -162,7 +198,8 @@ pub struct CornerSum {
     pub spokes: i64,
 }
 
-/// Those of all inner vertices of a level.
+/// Those of all vertices of a level that have fewer than two creases, as no
+/// vertex on a border has.
 pub fn corner_sums(level: &Cage) -> Vec<CornerSum> {
     let coordinate = |vertex: u32, axis: usize| i64::from(level.points[3 * vertex as usize + axis]);
     let mut spokes = vec![0; level.points.len()];
@@ -173,7 +210,7 @@ pub fn corner_sums(level: &Cage) -> Vec<CornerSum> {
             }
         }
     }
-    let corners = corners(level);
+    let (corners, creases) = (corners(level), creases_at(level));
     let sum = |(index, &spokes): (usize, &i64)| CornerSum {
         index,
         corners: corners[index / 3].0,
@@ -181,8 +218,8 @@ pub fn corner_sums(level: &Cage) -> Vec<CornerSum> {
         spokes,
     };
     let all = spokes.iter().enumerate();
-    let inner = all.filter(|(index, _)| !corners[index / 3].1);
-    inner.map(sum).collect()
+    let smooth = all.filter(|(index, _)| creases[index / 3].len() < 2);
+    smooth.map(sum).collect()
 }
 
 /// A fraction with a positive denominator, rounded to the nearest whole number.

@@ -1,4 +1,4 @@
--- `of_counts` has number and place, three times seven numbers and the two rooms in their cells.
+-- `of_counts` has number and place, three times seven numbers and the three rooms in their cells.
 use borrow.Author.Needs.{needs}
 use Prim.Native.Nat.{ℕ, _<_}
 use mathlib.Core.Path.{_≡_, ap, ap₂}
@@ -26,13 +26,13 @@ seven-all xs e = tabulate-cells 7 xs 0 e
 laid :
     (s : Said Levels) → Sevens (s .values) → {n p : ℕ} {h e v : List ℕ} →
     n ≡ s .verdict .number → p ≡ s .verdict .place → h ≡ s .values .halfedges → e ≡ s .values .edges → v ≡ s .values .vertices →
-    n ∷ p ∷ (seven h ++ (seven e ++ (seven v ++ (s .values .«halfedge_room» ∷ s .values .«vertex_room» ∷ [])))) ≡ levelCells s
+    n ∷ p ∷ (seven h ++ (seven e ++ (seven v ++ (s .values .«halfedge_room» ∷ s .values .«vertex_room» ∷ s .values .«edge_room» ∷ [])))) ≡ levelCells s
 laid s w n p h e v =
     let l = s .values in
     rw (n, p, h, e, v)
     (ap (λ xs. s .verdict .number ∷ s .verdict .place ∷ xs)
     (ap₂ _++_ (seven-all (l .halfedges) (w .halfedges))
-    (ap₂ _++_ (seven-all (l .edges) (w .edges)) (ap (λ xs. xs ++ (l .«halfedge_room» ∷ l .«vertex_room» ∷ [])) (seven-all (l .vertices) (w .vertices))))))
+    (ap₂ _++_ (seven-all (l .edges) (w .edges)) (ap (λ xs. xs ++ (l .«halfedge_room» ∷ l .«vertex_room» ∷ l .«edge_room» ∷ [])) (seven-all (l .vertices) (w .vertices))))))
 
 -- what of the counts fits
 record Parts (l : Levels) : Type 0 where
@@ -41,18 +41,20 @@ record Parts (l : Levels) : Type 0 where
   vertices : Fitting (l .vertices)
   halfedge-room : l .«halfedge_room» < 4294967296
   vertex-room : l .«vertex_room» < 4294967296
+  edge-room : l .«edge_room» < 4294967296
 
 parts : (l : Levels) → Fitting (levelNumbers l) → Parts l
 parts l f =
     let g = fitting-rest (l .halfedges) _ f in
     let i = fitting-rest (l .edges) _ g in
-    let r = fitting-rest (l .vertices) (l .«halfedge_room» ∷ l .«vertex_room» ∷ []) i in
+    let r = fitting-rest (l .vertices) (l .«halfedge_room» ∷ l .«vertex_room» ∷ l .«edge_room» ∷ []) i in
     record {
       halfedges = fitting-front (l .halfedges) _ f;
       edges = fitting-front (l .edges) _ g;
       vertices = fitting-front (l .vertices) _ i;
       halfedge-room = r .0;
       vertex-room = r .1 .0;
+      edge-room = r .1 .1 .0;
     }
 
 number-requires : tie.Need-number-requires
@@ -82,72 +84,75 @@ cast-halfedge-room c = let s = c .before .before .before .before .before .before
 cast-vertex-room : tie.Need-cast-vertex-room
 cast-vertex-room c = let s = c .before .before .before .before .before .before .before .before .before .before .before in record { fits = parts (s .args .counted .levels) (s .pre .1 .1 .1) .vertex-room }
 
-array-read-t18 : tie.Need-array-read-t18
-array-read-t18 c = search needs
+cast-edge-room : tie.Need-cast-edge-room
+cast-edge-room c = let s = c .before .before .before .before .before .before .before .before .before .before .before .before in record { fits = parts (s .args .counted .levels) (s .pre .1 .1 .1) .edge-room }
 
-array-read-t21 : tie.Need-array-read-t21
-array-read-t21 c = search needs
+array-read-t19 : tie.Need-array-read-t19
+array-read-t19 c = search needs
 
-array-read-t24 : tie.Need-array-read-t24
-array-read-t24 c = search needs
+array-read-t22 : tie.Need-array-read-t22
+array-read-t22 c = search needs
 
-array-read-t27 : tie.Need-array-read-t27
-array-read-t27 c = search needs
+array-read-t25 : tie.Need-array-read-t25
+array-read-t25 c = search needs
 
-array-read-t30 : tie.Need-array-read-t30
-array-read-t30 c = search needs
+array-read-t28 : tie.Need-array-read-t28
+array-read-t28 c = search needs
 
-array-read-t33 : tie.Need-array-read-t33
-array-read-t33 c = search needs
+array-read-t31 : tie.Need-array-read-t31
+array-read-t31 c = search needs
 
-array-read-t36 : tie.Need-array-read-t36
-array-read-t36 c = search needs
+array-read-t34 : tie.Need-array-read-t34
+array-read-t34 c = search needs
 
-array-read-t39 : tie.Need-array-read-t39
-array-read-t39 c = search needs
+array-read-t37 : tie.Need-array-read-t37
+array-read-t37 c = search needs
 
-array-read-t42 : tie.Need-array-read-t42
-array-read-t42 c = search needs
+array-read-t40 : tie.Need-array-read-t40
+array-read-t40 c = search needs
 
-array-read-t45 : tie.Need-array-read-t45
-array-read-t45 c = search needs
+array-read-t43 : tie.Need-array-read-t43
+array-read-t43 c = search needs
 
-array-read-t48 : tie.Need-array-read-t48
-array-read-t48 c = search needs
+array-read-t46 : tie.Need-array-read-t46
+array-read-t46 c = search needs
 
-array-read-t51 : tie.Need-array-read-t51
-array-read-t51 c = search needs
+array-read-t49 : tie.Need-array-read-t49
+array-read-t49 c = search needs
 
-array-read-t54 : tie.Need-array-read-t54
-array-read-t54 c = search needs
+array-read-t52 : tie.Need-array-read-t52
+array-read-t52 c = search needs
 
-array-read-t57 : tie.Need-array-read-t57
-array-read-t57 c = search needs
+array-read-t55 : tie.Need-array-read-t55
+array-read-t55 c = search needs
 
-array-read-t60 : tie.Need-array-read-t60
-array-read-t60 c = search needs
+array-read-t58 : tie.Need-array-read-t58
+array-read-t58 c = search needs
 
-array-read-t63 : tie.Need-array-read-t63
-array-read-t63 c = search needs
+array-read-t61 : tie.Need-array-read-t61
+array-read-t61 c = search needs
 
-array-read-t66 : tie.Need-array-read-t66
-array-read-t66 c = search needs
+array-read-t64 : tie.Need-array-read-t64
+array-read-t64 c = search needs
 
-array-read-t69 : tie.Need-array-read-t69
-array-read-t69 c = search needs
+array-read-t67 : tie.Need-array-read-t67
+array-read-t67 c = search needs
 
-array-read-t72 : tie.Need-array-read-t72
-array-read-t72 c = search needs
+array-read-t70 : tie.Need-array-read-t70
+array-read-t70 c = search needs
 
-array-read-t75 : tie.Need-array-read-t75
-array-read-t75 c = search needs
+array-read-t73 : tie.Need-array-read-t73
+array-read-t73 c = search needs
 
-array-read-t78 : tie.Need-array-read-t78
-array-read-t78 c = search needs
+array-read-t76 : tie.Need-array-read-t76
+array-read-t76 c = search needs
+
+array-read-t79 : tie.Need-array-read-t79
+array-read-t79 c = search needs
 
 returns : tie.Need-returns
 returns c =
-    let v = c .before .before in
+    let v = c .before .before .before in
     let e = v .before in
     let h = e .before in
     let p = h .before .before .before .before .before in
@@ -167,25 +172,26 @@ of-counts-spec =
     of-seven-requires-3
     cast-halfedge-room
     cast-vertex-room
-    array-read-t18
-    array-read-t21
-    array-read-t24
-    array-read-t27
-    array-read-t30
-    array-read-t33
-    array-read-t36
-    array-read-t39
-    array-read-t42
-    array-read-t45
-    array-read-t48
-    array-read-t51
-    array-read-t54
-    array-read-t57
-    array-read-t60
-    array-read-t63
-    array-read-t66
-    array-read-t69
-    array-read-t72
-    array-read-t75
-    array-read-t78
+    cast-edge-room
+    array-read-t19
+    array-read-t22
+    array-read-t25
+    array-read-t28
+    array-read-t31
+    array-read-t34
+    array-read-t37
+    array-read-t40
+    array-read-t43
+    array-read-t46
+    array-read-t49
+    array-read-t52
+    array-read-t55
+    array-read-t58
+    array-read-t61
+    array-read-t64
+    array-read-t67
+    array-read-t70
+    array-read-t73
+    array-read-t76
+    array-read-t79
     returns)

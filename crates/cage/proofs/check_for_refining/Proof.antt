@@ -1,9 +1,10 @@
--- `check_for_refining` goes through the points' length, checks 1 to 7, 14, and then the coordinates.
+-- `check_for_refining` goes through the points' length, checks 1 to 7 with 15, 14, and then the coordinates.
 use borrow.Author.Needs.{needs}
 use mathlib.Core.Path.{_≡_, sym, _∙_}
 use Rattle.halfedges.specs.Refusals.{told}
 use Rattle.halfedges.proofs.Told.{zero-done}
-use Rattle.cage.proofs.CageChecks.{for-valences, cage-shape, cage-refused, valence-refused, cage-points}
+use Rattle.creases.proofs.Accepted.{plain-done}
+use Rattle.cage.proofs.CageChecks.{for-valences, refine-shape, creased-refused, valence-refused, refine-points}
 use Rattle.cage.proofs.check_for_refining.Statement.{statement}
 use Rattle.cage.proofs.check_for_refining.Tie as tie
 
@@ -12,7 +13,7 @@ passed : (i : tie.Else2) → told (i .before .before .check-for-depth .result) .
 passed i = sym (i .before .number .ensures) ∙ i .if2 .left
 
 returns : tie.Need-returns
-returns c = cage-shape _ _ _ _ (c .if1 .taken)
+returns c = refine-shape _ _ _ _ _ (c .if1 .taken)
 
 check-for-depth-requires : tie.Need-check-for-depth-requires
 check-for-depth-requires c κs = search needs
@@ -23,12 +24,12 @@ number-requires c κs = search needs
 returns-2 : tie.Need-returns-2
 returns-2 c =
     let k = c .before .before in
-    cage-refused _ _ _ _ (k .before .if1 .left) (told (k .check-for-depth .result)) (k .check-for-depth .ensures) (λ z. c .if2 .taken (c .before .number .ensures ∙ z))
+    creased-refused _ _ _ _ _ (k .before .if1 .left) (told (k .check-for-depth .result)) (k .check-for-depth .ensures) (λ z. c .if2 .taken (c .before .number .ensures ∙ z))
 
 check-valences-requires : tie.Need-check-valences-requires
 check-valences-requires c κs =
     let k = c .before .before in
-    for-valences _ _ _ (sym (k .check-for-depth .ensures) ∙ zero-done (k .check-for-depth .result) (passed c))
+    for-valences _ _ _ (plain-done _ _ _ _ (sym (k .check-for-depth .ensures) ∙ zero-done (k .check-for-depth .result) (passed c)))
 
 number-requires-2 : tie.Need-number-requires-2
 number-requires-2 c κs = search needs
@@ -37,7 +38,7 @@ returns-3 : tie.Need-returns-3
 returns-3 c =
     let v = c .before .before in
     let k = v .before .before .before in
-    valence-refused _ _ _ _ (k .before .if1 .left) (told (k .check-for-depth .result)) (k .check-for-depth .ensures) (passed (v .before)) (told (v .check-valences .result)) (v .check-valences .ensures) (λ z. c .if3 .taken (c .before .number2 .ensures ∙ z))
+    valence-refused _ _ _ _ _ (k .before .if1 .left) (told (k .check-for-depth .result)) (k .check-for-depth .ensures) (passed (v .before)) (told (v .check-valences .result)) (v .check-valences .ensures) (λ z. c .if3 .taken (c .before .number2 .ensures ∙ z))
 
 check-points-requires : tie.Need-check-points-requires
 check-points-requires c κs = search needs
@@ -48,7 +49,7 @@ returns-4 c =
     let v = i .before .before in
     let k = v .before .before .before in
     c .check-points .ensures
-    ∙ cage-points _ _ _ _ (k .before .if1 .left) (told (k .check-for-depth .result)) (k .check-for-depth .ensures) (passed (v .before)) (told (v .check-valences .result)) (v .check-valences .ensures) (sym (i .before .number2 .ensures) ∙ i .if3 .left)
+    ∙ refine-points _ _ _ _ _ (k .before .if1 .left) (told (k .check-for-depth .result)) (k .check-for-depth .ensures) (passed (v .before)) (told (v .check-valences .result)) (v .check-valences .ensures) (sym (i .before .number2 .ensures) ∙ i .if3 .left)
 
 pub check-for-refining-spec : {M : Type 1} → statement M
 check-for-refining-spec =

@@ -1,4 +1,4 @@
--- The last pass over a level, by the stores that it makes at one step: the new place of vertex v is at 3n + 3v, and the point of edge e
+-- The fourth pass over a level, by the stores that it makes at one step: the new place of vertex v is at 3n + 3v, and the point of edge e
 -- at 6n + 3e.
 use Prim.Native.Nat.{ℕ, _+_, _*_, _≤_, _<_}
 use mathlib.Core.Path.{_≡_}
@@ -24,9 +24,9 @@ pub record Spanned (h : Halfedge) : Type 0 where
   pub to-near : Near (h .to .point)
   pub opposite-near : Near (h .opposite .point)
 
--- coordinate k of the middle of a border edge (E.1)
-abbrev pub middle : Halfedge → ℕ → ℤ
-middle h k = E1 (value (h .from .point) k) (value (h .to .point) k)
+-- coordinate k of the middle between a and its neighbour b (E.1)
+abbrev pub middle : Corner → Corner → ℕ → ℤ
+middle a b k = E1 (value (a .point) k) (value (b .point) k)
 
 -- coordinate k of what the lower halfedge of an inner edge leaves, and of what the higher one makes of that, from cell i on (E.2)
 abbrev pub start : Halfedge → ℕ → ℤ
@@ -45,11 +45,11 @@ pub record AsksFinish (h : Halfedge) (i : ℕ) (l : List ℤ) : Type 0 where
   pub near : Near (h .opposite .point)
   pub begun : Begun l i
 
--- coordinate k of the new place, from cell i on, of a border vertex a that meets its neighbour b (V.2)
+-- coordinate k of the new place, from cell i on, of a vertex a with two creases that meets its neighbour b along one (V.2)
 abbrev pub meeting : Corner → Corner → List ℤ → ℕ → ℕ → ℤ
 meeting a b l i k = met (value l (i + k)) (value (a .point) k) (value (b .point) k)
 
--- what `meeting` asks
+-- what `meeting` asks, and a middle that is stored from cell i on
 pub record AsksMeet (a b : Corner) (i : ℕ) (l : List ℤ) : Type 0 where
   pub room : i + 2 < length l
   pub near : Near (a .point)
@@ -65,7 +65,7 @@ place n h = 6 * n + 3 * h .edge
 
 -- a halfedge without twin: E.1, and each end meets the other
 unfoldable pub borderEdge : ℕ → Halfedge → List ℤ → List ℤ
-borderEdge n h l = meet n (h .to) (h .from) (meet n (h .from) (h .to) (put (place n h) (middle h) l))
+borderEdge n h l = meet n (h .to) (h .from) (meet n (h .from) (h .to) (put (place n h) (middle (h .from) (h .to)) l))
 
 -- a halfedge with a twin: the higher of the two finishes what the lower one starts
 abbrev pub inner : ℕ → Halfedge → List ℤ → ℕ → ℤ

@@ -69,6 +69,7 @@ pub record Relied (t : HalfedgeTable) (c : Tables) : Type 0 where
   pub cornered : Cornered (c .vert) (t .vertices)
   pub bordered : Bordered (c .twin) (c .vert) (t .vertices)
   pub carried : Carried (c .twin) (c .edge) (t .edges)
+  pub twin-ends : (h : ℕ) → h < length (c .twin) → cell (c .twin) h ≢ marker → cell (c .vert) (cell (c .twin) h) ≡ far (c .vert) h
 
 -- what is known of VERT above the cage, where the level before had so many halfedges. Each of its triangles became four: three at its
 -- corners, which stand together, and past all of those the middle one, whose halfedges run back along the second ones of the three

@@ -32,6 +32,10 @@ impl Operations for Archive {
         answered(|answer| sys::check(handed(cage), answer))
     }
 
+    fn edges(&self, twin: &[u32]) -> Vec<u64> {
+        answered(|answer| sys::edges(twin, answer))
+    }
+
     fn counts(&self, [h, e, v, depth]: [u64; 4]) -> Vec<u64> {
         answered(|answer| sys::counts(h, e, v, depth, answer))
     }

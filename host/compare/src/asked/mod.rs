@@ -16,6 +16,8 @@ pub use second_program::SecondProgram;
 /// number, place and values.
 pub trait Operations {
     fn check(&self, cage: &Cage) -> Vec<u64>;
+    /// The answer is E alone.
+    fn edges(&self, twin: &[u32]) -> Vec<u64>;
     fn counts(&self, numbers: [u64; 4]) -> Vec<u64>;
     fn corners(&self, vert: &[u32], triangle: u64) -> Vec<u64>;
     fn refine(&self, cage: &Cage, depth: u64, weight: Weight, lent: &mut Cage) -> Vec<u64>;
@@ -33,6 +35,7 @@ pub fn handed(cage: &Cage) -> ryebadger::Cage<'_> {
         vert: &cage.vert,
         edge: &cage.edge,
         points: &cage.points,
+        creases: Some(&cage.creases),
     }
 }
 
@@ -44,13 +47,25 @@ pub fn chosen(weight: Weight) -> ryebadger::Weight {
     }
 }
 
+/// The host library's level, as the second program has its tables.
+pub fn owned(level: ryebadger::Cage<'_>) -> Cage {
+    Cage {
+        twin: level.twin.to_vec(),
+        vert: level.vert.to_vec(),
+        edge: level.edge.to_vec(),
+        points: level.points.to_vec(),
+        creases: level.crease_table().to_vec(),
+    }
+}
+
 /// The second program's tables, as the host library is lent them.
-fn lent(tables: &mut Cage) -> ryebadger::LentTables<'_> {
+pub fn lent(tables: &mut Cage) -> ryebadger::LentTables<'_> {
     ryebadger::LentTables {
         twin: &mut tables.twin,
         vert: &mut tables.vert,
         edge: &mut tables.edge,
         points: &mut tables.points,
+        creases: &mut tables.creases,
     }
 }
 
@@ -64,8 +79,9 @@ fn told<const N: usize>(answer: Result<[u64; N], [u64; 2]>) -> Vec<u64> {
     [&verdict[..], &values[..]].concat()
 }
 
-/// H, E and V of seven levels, then the room in halfedges and in vertices.
-fn level_numbers(levels: [[u64; 7]; 3], room: [u64; 2]) -> [u64; 23] {
+/// H, E and V of seven levels, then the room in halfedges, in vertices and in
+/// edges.
+fn level_numbers(levels: [[u64; 7]; 3], room: [u64; 3]) -> [u64; 24] {
     let mut numbers = levels.into_iter().flatten().chain(room);
     std::array::from_fn(|_| numbers.next().unwrap_or_default())
 }

@@ -14,6 +14,10 @@ impl Operations for SafeCrate {
         answer(ryebadger::check(handed(cage)).map(cage_numbers))
     }
 
+    fn edges(&self, twin: &[u32]) -> Vec<u64> {
+        vec![ryebadger::edges(twin).into()]
+    }
+
     fn counts(&self, [h, e, v, depth]: [u64; 4]) -> Vec<u64> {
         answer(ryebadger::counts(h, e, v, depth).map(counts_numbers))
     }
@@ -59,8 +63,8 @@ fn cage_numbers(found: CageCounts) -> [u32; 5] {
     [h, e, f, found.vertices, found.borders]
 }
 
-fn counts_numbers(counts: LevelCounts) -> [u64; 23] {
+fn counts_numbers(counts: LevelCounts) -> [u64; 24] {
     let levels = [counts.halfedges, counts.edges, counts.vertices];
-    let room = [counts.halfedge_room, counts.vertex_room];
+    let room = [counts.halfedge_room, counts.vertex_room, counts.edge_room];
     level_numbers(levels.map(|row| row.map(u64::from)), room.map(u64::from))
 }

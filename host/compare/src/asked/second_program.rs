@@ -1,7 +1,7 @@
 //! The second program.
 
 use second::build::build;
-use second::cage::Cage;
+use second::cage::{edges, Cage};
 use second::check::{check, CageCounts};
 use second::corners::corner_question;
 use second::counts::{count_question, LevelCounts};
@@ -20,6 +20,10 @@ pub struct SecondProgram;
 impl Operations for SecondProgram {
     fn check(&self, cage: &Cage) -> Vec<u64> {
         answer(check(cage).map(cage_numbers))
+    }
+
+    fn edges(&self, twin: &[u32]) -> Vec<u64> {
+        vec![(edges(twin) as u64).min(u32::MAX.into())]
     }
 
     fn counts(&self, [h, e, v, depth]: [u64; 4]) -> Vec<u64> {
@@ -64,9 +68,10 @@ fn cage_numbers(found: CageCounts) -> [u64; 5] {
     [h, e, f, found.vertices, found.borders]
 }
 
-fn counts_numbers(counts: LevelCounts) -> [u64; 23] {
+fn counts_numbers(counts: LevelCounts) -> [u64; 24] {
     let levels = [counts.halfedges, counts.edges, counts.vertices];
-    level_numbers(levels, [counts.halfedge_room, counts.vertex_room])
+    let room = [counts.halfedge_room, counts.vertex_room, counts.edge_room];
+    level_numbers(levels, room)
 }
 
 fn lent(tables: &mut Cage) -> LentTables<'_> {
@@ -75,5 +80,6 @@ fn lent(tables: &mut Cage) -> LentTables<'_> {
         vert: &mut tables.vert,
         edge: &mut tables.edge,
         points: &mut tables.points,
+        creases: &mut tables.creases,
     }
 }

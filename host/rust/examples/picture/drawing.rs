@@ -1,6 +1,6 @@
 //! A picture of the levels of a cage: a panel for each, seen obliquely from
 //! above, every triangle shaded by how it lies to the light, the border drawn
-//! thicker.
+//! thicker, and creases in another colour.
 //!
 //! All sizes are in tenths of a pixel, so that whole numbers are fine enough.
 //! Only sums, products, quotients and square roots are used, which come out
@@ -27,6 +27,10 @@ const UP: [f64; 2] = [0.7431, 0.6691];
 /// Where the light comes from.
 const LIGHT: [f64; 3] = [-0.48, -0.36, 0.8];
 
+/// The colours of the border and of creases.
+const BORDER: &str = "#c2542d";
+const CREASE: &str = "#7b2d6b";
+
 /// From the darkest triangle to the lightest, in so many steps.
 const DARK: [f64; 3] = [58.0, 88.0, 110.0];
 const BRIGHT: [f64; 3] = [240.0, 246.0, 247.0];
@@ -41,7 +45,7 @@ pub fn svg(refined: &Refined) -> String {
     let (pixels, lines) = (width / 10.0, height / 10.0);
     let mut text = format!(
         r##"<svg xmlns="http://www.w3.org/2000/svg" viewBox="0 0 {width} {height}" width="{pixels}" height="{lines}">
-<title>A cage and its first three levels</title>
+<title>A cage with a seam and its first three levels</title>
 <rect width="100%" height="100%" fill="#fbfaf7"/>
 "##
     );
@@ -51,7 +55,8 @@ pub fn svg(refined: &Refined) -> String {
         let (x, y) = (column * PANEL[0], row * (PANEL[1] + CAPTION));
         text += &format!("<g transform=\"translate({x} {y})\">\n");
         text += &triangles(level, &view, LINE / (number + 1) as f64);
-        text += &border(level, &view);
+        text += &edge_lines(level, &view, CREASE, |h| is_crease(level, h));
+        text += &edge_lines(level, &view, BORDER, |h| level.twin[h] == MARKER);
         text += &caption(number, level);
         text += "</g>\n";
     }
@@ -69,12 +74,31 @@ fn triangles(level: Cage<'_>, view: &View, line: f64) -> String {
     text + "</g>\n"
 }
 
-fn border(level: Cage<'_>, view: &View) -> String {
-    let lines = border_lines(level, view);
+/// A line for each of these halfedges.
+fn edge_lines(
+    level: Cage<'_>,
+    view: &View,
+    colour: &str,
+    is_drawn: impl Fn(usize) -> bool,
+) -> String {
+    let mut lines = String::new();
+    for h in (0..level.twin.len()).filter(|&h| is_drawn(h)) {
+        let next = if h % 3 == 2 { h - 2 } else { h + 1 };
+        let ends = [h, next].map(|h| view.place(point(level, level.vert[h])));
+        let [[x, y], [to_x, to_y]] = ends;
+        // Writing to a String cannot fail.
+        let _ = write!(lines, "M{x} {y}l{} {}", to_x - x, to_y - y);
+    }
     format!(
-        r##"<path fill="none" stroke="#c2542d" stroke-width="18" stroke-linecap="round" d="{lines}"/>
+        r##"<path fill="none" stroke="{colour}" stroke-width="18" stroke-linecap="round" d="{lines}"/>
 "##
     )
+}
+
+/// Whether this halfedge is the higher one of an edge with a number above 0.
+fn is_crease(level: Cage<'_>, h: usize) -> bool {
+    let number = level.crease_table()[level.edge[h] as usize];
+    number > 0 && level.twin[h] < h as u32
 }
 
 fn caption(number: usize, level: Cage<'_>) -> String {
@@ -94,22 +118,9 @@ fn shaded_outlines(level: Cage<'_>, view: &View) -> BTreeMap<u32, String> {
         let outlines = by_shade.entry(shade(corners)).or_default();
         let [[ax, ay], [bx, by], [cx, cy]] = corners.map(|corner| view.place(corner));
         let (b, c) = ((bx - ax, by - ay), (cx - bx, cy - by));
-        // Writing to a String cannot fail.
         let _ = write!(outlines, "M{ax} {ay}l{} {} {} {}z", b.0, b.1, c.0, c.1);
     }
     by_shade
-}
-
-/// A line for each halfedge without a twin.
-fn border_lines(level: Cage<'_>, view: &View) -> String {
-    let mut lines = String::new();
-    for h in (0..level.twin.len()).filter(|&h| level.twin[h] == MARKER) {
-        let next = if h % 3 == 2 { h - 2 } else { h + 1 };
-        let ends = [h, next].map(|h| view.place(point(level, level.vert[h])));
-        let [[x, y], [to_x, to_y]] = ends;
-        let _ = write!(lines, "M{x} {y}l{} {}", to_x - x, to_y - y);
-    }
-    lines
 }
 
 fn point(level: Cage<'_>, vertex: u32) -> Point {

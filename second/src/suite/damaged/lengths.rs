@@ -18,6 +18,7 @@ pub(super) fn wrong_lengths() -> Vec<Damaged> {
             twin: vec![MARKER; numbers.len()],
             vert: numbers.clone(),
             points: vec![0; 3 * numbers.len()],
+            creases: vec![0; numbers.len()],
             edge: numbers,
         };
         cages.push(damaged(format!("halfedges-{h}"), cut, SHAPE, 0));

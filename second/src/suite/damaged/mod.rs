@@ -1,7 +1,9 @@
-//! For trying what document 01 says in "Why a cage is sent back": cages that
-//! break a rule at a known place.
+//! For trying what document 01 says in "Why a cage is sent back", and what
+//! document 02 adds to it: cages that break a rule at a known place.
 
 mod cells;
+mod crease_order;
+mod creases;
 mod joined;
 mod lengths;
 mod valences;
@@ -24,6 +26,12 @@ pub(super) fn damaged_cages() -> Vec<SuiteCage> {
         wholes::wrong_fans(),
         wholes::several_faults(),
         valences::faults_behind_many_corners(),
+        creases::wrong_lengths(),
+        creases::too_high(),
+        creases::on_borders(),
+        creases::two_wrong_numbers(),
+        crease_order::among_other_faults(),
+        crease_order::behind_many_corners(),
     ];
     let damaged = damaged.into_iter().flatten();
     damaged
@@ -39,9 +47,9 @@ fn damaged(name: impl ToString, cage: Cage, number: u32, place: usize) -> Damage
     (name.to_string(), cage, Refusal::new(number, place))
 }
 
-/// The cage after a change.
+/// The cage after a change, without creases, whatever its edges are now.
 fn changed(cage: &Cage, change: impl FnOnce(&mut Cage)) -> Cage {
     let mut changed = cage.clone();
     change(&mut changed);
-    changed
+    changed.without_creases()
 }

@@ -22,16 +22,14 @@ array-copy-out-border-edge-2 c = search needs
 border-edge-requires : tie.Need-border-edge-requires
 border-edge-requires c κs =
     let s = c .before .before .before .before in
-    let h = s .args .halfedge in
-    (near-kept (h .from .point) (s .pre .0 .from-near) (s .args .k) (s .pre .1), near-kept (h .to .point) (s .pre .0 .to-near) (s .args .k) (s .pre .1))
+    (near-kept (s .args .corner .point) (s .pre .0) (s .args .k) (s .pre .2), near-kept (s .args .neighbour .point) (s .pre .1) (s .args .k) (s .pre .2))
 
 returns : tie.Need-returns
 returns c =
     let s = c .before .before .before .before .before in
-    let h = s .args .halfedge in
     back-of w32 _ (c .border-edge .ok)
     ∙ c .border-edge .ensures
-    ∙ rw (near-stored (h .from .point) (s .pre .0 .from-near) (s .args .k) (s .pre .1), near-stored (h .to .point) (s .pre .0 .to-near) (s .args .k) (s .pre .1))
+    ∙ rw (near-stored (s .args .corner .point) (s .pre .0) (s .args .k) (s .pre .2), near-stored (s .args .neighbour .point) (s .pre .1) (s .args .k) (s .pre .2))
 
 pub middle-at-spec : {M : Type 1} → statement M
 middle-at-spec =

@@ -10,7 +10,7 @@ use Rattle.edgepoints.specs.Internal.Edges.{middle, meet, place, borderE
 use Rattle.edgepoints.proofs.edges.put_border.Statement.{statement}
 use Rattle.edgepoints.proofs.edges.put_border.Tie as tie
 
-three-puts : (n : ℕ) (h : Halfedge) (l : List ℤ) {one two three : List ℤ} → one ≡ put (place n h) (middle h) l → two ≡ meet n (h .from) (h .to) one → three ≡ meet n (h .to) (h .from) two → three ≡ borderEdge n h l
+three-puts : (n : ℕ) (h : Halfedge) (l : List ℤ) {one two three : List ℤ} → one ≡ put (place n h) (middle (h .from) (h .to)) l → two ≡ meet n (h .from) (h .to) one → three ≡ meet n (h .to) (h .from) two → three ≡ borderEdge n h l
 unfolding borderEdge
 three-puts n h l x y z = z ∙ ap (meet n (h .to) (h .from)) (y ∙ ap (meet n (h .from) (h .to)) x)
 

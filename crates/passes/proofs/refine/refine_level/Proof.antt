@@ -1,108 +1,49 @@
--- `refine_level` hands on the level's part of each table, and puts back what comes of the points.
-use Prim.Native.Nat.{ℕ, _+_, _-_}
-use mathlib.Core.Path.{_≡_, ap, _∙_}
-use native.Mathlib.Omega.{arith}
-use lib.ListN.{length}
-use borrow.Rule.Slice.PartMut.{putMid}
+-- `refine_level` adds the creases inside where the level has some left.
 use borrow.Author.Needs.{needs}
+use mathlib.Core.Path.{sym, _∙_}
 use Rattle.tables.specs.Tables.{tables}
-use Rattle.passes.specs.Internal.Levels.{tablesAt}
-use Rattle.passes.proofs.Lent.{ready-part, part-back}
+use Rattle.passes.proofs.Drawn.{seams-asked, seams-drawn, none-left}
 use Rattle.passes.proofs.refine.refine_level.Statement.{statement}
 use Rattle.passes.proofs.refine.refine_level.Tie as tie
 
-span : (a n : ℕ) → a + n - a ≡ n
-span a n = omega arith
+smooth-level-requires : tie.Need-smooth-level-requires
+smooth-level-requires c κs = search needs
 
-add-end : tie.Need-add-end
-add-end c = search needs
+any-sharp-requires : tie.Need-any-sharp-requires
+any-sharp-requires c κs = search needs
 
-mul-next-points : tie.Need-mul-next-points
-mul-next-points c = search needs
-
-sub-next-points : tie.Need-sub-next-points
-sub-next-points c = search needs
-
-part-next-points-start : tie.Need-part-next-points-start
-part-next-points-start c = search needs
-
-part-next-points-end : tie.Need-part-next-points-end
-part-next-points-end c = search needs
-
-mul-next-points-2 : tie.Need-mul-next-points-2
-mul-next-points-2 c = search needs
-
-sub-next-points-2 : tie.Need-sub-next-points-2
-sub-next-points-2 c = search needs
-
-part-next-points-start-2 : tie.Need-part-next-points-start-2
-part-next-points-start-2 c = search needs
-
-part-next-points-end-2 : tie.Need-part-next-points-end-2
-part-next-points-end-2 c = search needs
-
-mul-next-points-3 : tie.Need-mul-next-points-3
-mul-next-points-3 c = search needs
-
-sub-next-points-3 : tie.Need-sub-next-points-3
-sub-next-points-3 c = search needs
-
-part-next-points-start-3 : tie.Need-part-next-points-start-3
-part-next-points-start-3 c = search needs
-
-part-next-points-end-3 : tie.Need-part-next-points-end-3
-part-next-points-end-3 c = search needs
-
-mul-next-points-4 : tie.Need-mul-next-points-4
-mul-next-points-4 c = search needs
-
-sub-next-points-4 : tie.Need-sub-next-points-4
-sub-next-points-4 c = search needs
-
-part-next-points-start-4 : tie.Need-part-next-points-start-4
-part-next-points-start-4 c = search needs
-
-part-next-points-end-4 : tie.Need-part-next-points-end-4
-part-next-points-end-4 c = search needs
-
-next-points-requires : tie.Need-next-points-requires
-next-points-requires c κs =
-    let s = c .before .before .before .before .before .before .before .before .before in
-    let x = s .args .level in
-    rw (span (x .start) (x .counts .halfedges)) (ready-part _ _ _ _ (s .pre .ready))
+count-and-draw-requires : tie.Need-count-and-draw-requires
+count-and-draw-requires c κs =
+    let s = c .before .before .before .before .before .before .before .before .before .before .before in
+    let a = s .args in
+    (s .pre .count, seams-asked (a .weight) _ (a .cage) (a .creases .now) (a .level) (tables (a .twin .now) (a .vert .now) (a .edge .now)) (a .points .now) (s .pre) (c .before .before .before .before .smooth-level .ensures))
 
 same-length : tie.Need-same-length
 same-length c = search needs
 
 returns : tie.Need-returns
 returns c =
-    let s = c .before .before .before .before .before .before .before .before .before .before .before in
-    let x = s .args .level in
-    let l = s .args .points .now in
-    ap (putMid (x .at) (length l - x .at) l) (rw (span (x .start) (x .counts .halfedges)) at (c .before .next-points .ensures))
-    ∙ part-back (x .counts) (tablesAt (x .counts) (x .start) (tables (s .args .twin .now) (s .args .vert .now) (s .args .edge .now))) (x .at) l (s .args .weight)
+    let s = c .before .before .before .before .before .before .before .before .before .before .before .before .before in
+    let a = s .args in
+    seams-drawn (a .weight) _ (a .cage) (a .creases .now) (a .level) (tables (a .twin .now) (a .vert .now) (a .edge .now)) (a .points .now) (s .pre) (c .before .before .before .before .before .before .smooth-level .ensures) (c .before .count-and-draw .ensures)
+
+same-length-2 : tie.Need-same-length-2
+same-length-2 c = search needs
+
+returns-2 : tie.Need-returns-2
+returns-2 c =
+    let s = c .before .before .before .before .before .before .before .before .before .before in
+    let a = s .args in
+    none-left (a .weight) _ (a .cage) (a .creases .now) (a .level) (tables (a .twin .now) (a .vert .now) (a .edge .now)) (a .points .now) (s .pre) (c .before .before .before .smooth-level .ensures) (sym (c .before .any-sharp .ensures) ∙ c .if1 .left)
 
 pub refine-level-spec : {M : Type 1} → statement M
 refine-level-spec =
     tie.close
     (tie.spec
-    add-end
-    mul-next-points
-    sub-next-points
-    part-next-points-start
-    part-next-points-end
-    mul-next-points-2
-    sub-next-points-2
-    part-next-points-start-2
-    part-next-points-end-2
-    mul-next-points-3
-    sub-next-points-3
-    part-next-points-start-3
-    part-next-points-end-3
-    mul-next-points-4
-    sub-next-points-4
-    part-next-points-start-4
-    part-next-points-end-4
-    next-points-requires
+    smooth-level-requires
+    any-sharp-requires
+    count-and-draw-requires
     same-length
-    returns)
+    returns
+    same-length-2
+    returns-2)

@@ -11,20 +11,20 @@ use Rattle.passes.proofs.refine.refine_points.Tie as tie
 -- the tally, once the corners are counted
 module _ (k : tie.After-count-numbers) where
   abbrev s : tie.Start
-  s = k .before .before .before .before .before .before
+  s = k .before .before .before .before .before .before .before
 
   enough : s .args .table .vertices ≤ length (k .count-numbers .last .1 .0)
   enough = let small = s .pre .counts .vertices in search needs
 
 slice-aggregate-count-numbers : tie.Need-slice-aggregate-count-numbers
-slice-aggregate-count-numbers c = let s = c .before .before .before .before in sym (length-take-le (s .args .table .halfedges) (s .args .vert .now) (s .pre .cage-long))
+slice-aggregate-count-numbers c = let s = c .before .before .before .before .before in sym (length-take-le (s .args .table .halfedges) (s .args .vert .now) (s .pre .cage-long))
 
 slice-aggregate-count-numbers-2 : tie.Need-slice-aggregate-count-numbers-2
 slice-aggregate-count-numbers-2 c = search needs
 
 count-numbers-requires : tie.Need-count-numbers-requires
 count-numbers-requires c κs =
-    let s = c .before .before .before .before .before in
+    let s = c .before .before .before .before .before .before in
     (rw (length-take-le (s .args .table .halfedges) (s .args .vert .now) (s .pre .cage-long)) (s .pre .counts .halfedges), record { each = λ x l. getD-replicate 3072 x 0 0 l })
 
 array-share-prefix-corners : tie.Need-array-share-prefix-corners

@@ -7,23 +7,27 @@ use Rattle.passes.proofs.level.Level.next.Tie as tie
 finer-requires : tie.Need-finer-requires
 finer-requires c κs = search needs
 
-sub-t4 : tie.Need-sub-t4
-sub-t4 c = search needs
+add-t4 : tie.Need-add-t4
+add-t4 c = search needs
 
-add-t5 : tie.Need-add-t5
-add-t5 c = search needs
+sub-t5 : tie.Need-sub-t5
+sub-t5 c = search needs
 
-mul-t6 : tie.Need-mul-t6
-mul-t6 c = search needs
+add-t6 : tie.Need-add-t6
+add-t6 c = search needs
 
-add-t7 : tie.Need-add-t7
-add-t7 c = search needs
+mul-t7 : tie.Need-mul-t7
+mul-t7 c = search needs
+
+add-t8 : tie.Need-add-t8
+add-t8 c = search needs
 
 returns : tie.Need-returns
 returns c =
-    let k = c .before .before .before .before .before in
+    let k = c .before .before .before .before .before .before in
     let x = k .before .before .args .self in
     λ i. record {
+      number = x .number + 1;
       left = x .left - 1;
       counts = k .finer .ensures i;
       before = x .counts .halfedges;
@@ -32,4 +36,4 @@ returns c =
     }
 
 pub next-spec : {M : Type 1} → statement M
-next-spec = tie.close (tie.spec finer-requires sub-t4 add-t5 mul-t6 add-t7 returns)
+next-spec = tie.close (tie.spec finer-requires add-t4 sub-t5 add-t6 mul-t7 add-t8 returns)
