@@ -13,7 +13,7 @@ number-cell-requires : tie.Need-number-cell-requires
 number-cell-requires c κs = search needs
 
 returns : tie.Need-returns
-returns c = ap (λ n. n ∷ []) (c .number-cell .ensures ∙ ap numberCell (c .before .count-edges .ensures))
+returns c = let n = c .before in ap (λ k. k ∷ []) (n .number-cell .ensures ∙ ap numberCell (n .before .count-edges .ensures))
 
 pub ryebadger-edges-spec : {M : Type 1} → statement M
 ryebadger-edges-spec = tie.close (tie.spec count-edges-requires number-cell-requires returns)
