@@ -53,7 +53,7 @@ std::vector<std::vector<double>> best_times(const std::vector<Refiner>& all, con
 
 // Whether the bar is met.
 bool print_times(const char* name, const Cage& plain) {
-  constexpr double kBar = 1.05;  // how many times its time without creases the library may take with them
+  constexpr double kBar = 1.13;  // how many times its time without creases the library may take with them
   const std::vector<Cage> cages = {plain, with_creases(plain, {10}), with_creases(plain, kMixed)};
   for (const Cage& cage : cages)
     for (const Weight weight : {Weight::kShort, Weight::kPaper}) compared(cage, weight);

@@ -1,5 +1,6 @@
 // The library's own four passes, by hand, the spokes triangle by triangle. The sums are cleared; each triangle's spokes are added to
-// them; they become places; and a last pass makes the edges' points and puts the border's vertices where they belong.
+// them; they become places; and the last of them makes the edges' points and puts the border's vertices where they belong. What
+// creases inside change is put over that, as in the library; here they are listed and not looked for.
 #include "by_hand.h"
 #include "engines.h"
 

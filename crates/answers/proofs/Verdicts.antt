@@ -1,8 +1,7 @@
 -- The verdicts of checks that several operations run fit their cells: `short-small`, of room; of 1 to 8 `cage-small`, with creases
 -- `creased-small`, and with 14 `refine-checks-small`; `rooms-small` of four tables' room, and `lent-small` of five. Assumes nothing.
 use Prim.Native.Nat.{ℕ, _*_, _≤_, _<_}
-use mathlib.Core.Path.{_≡_, refl}
-use mathlib.Core.Bool.{false}
+use mathlib.Core.Path.{refl}
 use mathlib.Core.List.{List, [], _∷_, _++_}
 use native.Mathlib.Omega.{arith}
 use lib.Dec.{ltb}

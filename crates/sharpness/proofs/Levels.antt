@@ -13,7 +13,7 @@ use Rattle.laws.proofs.Pigeonhole.{some-counted}
 use Rattle.laws.proofs.Sums.{sum-same}
 use Rattle.laws.proofs.Tabulate.{length-tabulate, getD-tabulate}
 use Rattle.halfedges.specs.declared.table.HalfedgeTable.{HalfedgeTable}
-use Rattle.halfedges.specs.Cage.{marker, most-halfedges, most-depth, cell, E}
+use Rattle.halfedges.specs.Cage.{marker, most-halfedges, most-depth, cell}
 use Rattle.halfedges.specs.Refusals.{DONE, first}
 use Rattle.halfedges.specs.Counts.{countsAt, Es, Vs}
 use Rattle.halfedges.proofs.Questions.{limits-kept}
