@@ -1,19 +1,23 @@
 -- What a file can hold, and how long it is. Assumes nothing.
---     file-length     24 + 6H + 12V
---     file-sized      each payload is as long as its head says
+--     file-length     24 + 6H + 12V, and in form 2 seven bytes and the creases more
+--     file-sized      each payload is as long as its head says; of the first four fields `tables-sized`
 use Prim.Native.Nat.{ℕ, _+_, _*_, _%_, _≤_, _<_}
 use mathlib.Core.Path.{_≡_, refl, ap, _∙_}
 use mathlib.Core.Logic.{_⊎_, _≢_}
-use mathlib.Core.List.{List, [], _∷_, map, flatMap}
+use mathlib.Core.List.{List, [], _∷_, _++_, map, flatMap}
 use native.Mathlib.Omega.{arith}
 use lib.IntN.{ℤ, pos, natAbs}
 use lib.ListN.{length, getD, length-append, length-map}
 use Rattle.laws.proofs.Chunks.{length-flatMap}
-use Rattle.halfedges.specs.Cage.{marker, most-halfedges, most-vertices, cell}
+use Rattle.laws.proofs.Counts.{count-at-most}
+use Rattle.halfedges.specs.Cage.{marker, E, above, most-halfedges, most-vertices, cell}
 use Rattle.tables.specs.Tables.{Tables}
+use Rattle.points.specs.Weights.{weightNumber}
 use Rattle.points.specs.Operations.{vertices, most-coordinate}
+use Rattle.cagefile.specs.declared.fields.Form.{Form}
+use Rattle.cagefile.specs.declared.fields.Form.the-variants.{One, Two}
 use Rattle.cagefile.specs.Numbers.{u16, u32, twos}
-use Rattle.cagefile.specs.Fields.{opening, heads, payloads, fields, file, Head}
+use Rattle.cagefile.specs.Fields.{Cage, number, opening, tableHeads, laterHeads, heads, tablePayloads, laterPayloads, payloads, fields, file, Head}
 use Rattle.cagefile.proofs.NumberLaws.{stored}
 
 -- heads and payloads that belong together
@@ -45,24 +49,60 @@ length-u16s = length-flatMap u16 2 (λ _. refl)
 pub length-coordinates : (zs : List ℤ) → length (flatMap u32 (map twos zs)) ≡ 4 * length zs
 length-coordinates zs = length-flatMap u32 4 (λ _. refl) (map twos zs) ∙ ap (λ n. 4 * n) (length-map zs twos)
 
-module _ (c : Tables) (points : List ℤ) (shaped : Shaped c points) where
-  twins-length : length (flatMap u16 (map stored (c .twin))) ≡ 2 * length (c .twin)
-  twins-length = length-u16s (map stored (c .twin)) ∙ ap (λ n. 2 * n) (length-map (c .twin) stored)
+-- no more edges than halfedges
+pub edges-at-most : (twin : List ℕ) → E twin ≤ length twin
+unfolding E
+edges-at-most twin = count-at-most (length twin) (above twin)
 
-  points-length : length (flatMap u32 (map twos points)) ≡ 12 * vertices points
-  points-length = length-coordinates points ∙ omega arith
+-- a number for each edge, in the form that has them
+abbrev pub Numbered : Form → Cage → Type 0
+Numbered One w = Unit {0}
+Numbered Two w = length (w .creases) ≡ E (w .connectivity .twin)
 
-  pub file-sized : length (c .twin) ≤ most-halfedges → vertices points ≤ most-vertices → Sized (opening ∷ heads (length (c .twin)) (vertices points)) (payloads c points)
-  unfolding heads payloads
-  file-sized l m =
-      more (length-u16s (1 ∷ length (c .twin) ∷ vertices points ∷ [])) (omega arith)
-      (more twins-length (omega arith)
-      (more (length-u16s (c .vert) ∙ ap (λ n. 2 * n) (shaped .vert)) (omega arith)
-      (more (length-u16s (c .edge) ∙ ap (λ n. 2 * n) (shaped .edge)) (omega arith)
-      (more points-length (omega arith)
-      (more {p = []} refl (omega arith) none)))))
+-- the bytes that form 2 adds: two heads, a byte for each crease number and one for the weight
+abbrev pub extra : Form → ℕ → ℕ
+extra One e = 0
+extra Two e = 7 + e
 
-  pub file-length : length (file c points) ≡ 24 + 6 * length (c .twin) + 12 * vertices points
-  unfolding file fields heads payloads flatMap
-  file-length =
-      simp length-append (omega (arith, twins-length, points-length, length-u16s (c .vert), length-u16s (c .edge)))
+points-length : (points : List ℤ) → length points % 3 ≡ 0 → length (flatMap u32 (map twos points)) ≡ 12 * vertices points
+points-length points threes = length-coordinates points ∙ omega arith
+
+twins-length : (twin : List ℕ) → length (flatMap u16 (map stored twin)) ≡ 2 * length twin
+twins-length twin = length-u16s (map stored twin) ∙ ap (λ n. 2 * n) (length-map twin stored)
+
+-- the first field and the tables', and more after them
+pub tables-sized : (form : Form) (c : Tables) (v : ℕ) → length (c .vert) ≡ length (c .twin) → length (c .edge) ≡ length (c .twin) → length (c .twin) ≤ most-halfedges
+    → {hs : List Head} {ps : List (List ℕ)} → Sized hs ps → Sized (opening ∷ (tableHeads (length (c .twin)) ++ hs)) (tablePayloads form c v ++ ps)
+unfolding tableHeads tablePayloads
+tables-sized form c v evert eedge few rest =
+    more (length-u16s (number form ∷ length (c .twin) ∷ v ∷ [])) (omega arith)
+    (more (twins-length (c .twin)) (omega arith)
+    (more (length-u16s (c .vert) ∙ ap (λ n. 2 * n) evert) (omega arith)
+    (more (length-u16s (c .edge) ∙ ap (λ n. 2 * n) eedge) (omega arith) rest)))
+
+module _ (w : Cage) (shaped : Shaped (w .connectivity) (w .points)) where
+  abbrev twin : List ℕ
+  twin = w .connectivity .twin
+
+  abbrev v : ℕ
+  v = vertices (w .points)
+
+  module _ (few : length twin ≤ most-halfedges) (less : v ≤ most-vertices) where
+    later-sized : (form : Form) → Numbered form w → Sized (laterHeads form (E twin) v) (laterPayloads form w)
+    unfolding laterHeads laterPayloads
+    later-sized One n =
+        more (points-length (w .points) (shaped .threes)) (omega arith)
+        (more {p = []} refl (omega arith) none)
+    later-sized Two n =
+        more n (omega (arith, edges-at-most twin))
+        (more (points-length (w .points) (shaped .threes)) (omega arith)
+        (more {p = weightNumber (w .weight) ∷ []} refl (omega arith)
+        (more {p = []} refl (omega arith) none)))
+
+    pub file-sized : (form : Form) → Numbered form w → Sized (opening ∷ heads form (length twin) (E twin) v) (payloads form w)
+    file-sized form n = tables-sized form (w .connectivity) v (shaped .vert) (shaped .edge) few (later-sized form n)
+
+  pub file-length : (form : Form) → length (file form w) ≡ 24 + 6 * length twin + 12 * v + extra form (length (w .creases))
+  unfolding file fields tableHeads laterHeads tablePayloads laterPayloads flatMap
+  file-length One = simp length-append (omega (arith, twins-length twin, points-length (w .points) (shaped .threes), length-u16s (w .connectivity .vert), length-u16s (w .connectivity .edge)))
+  file-length Two = simp length-append (omega (arith, twins-length twin, points-length (w .points) (shaped .threes), length-u16s (w .connectivity .vert), length-u16s (w .connectivity .edge)))

@@ -4,7 +4,7 @@ use mathlib.Core.Bool.{Bool, cond}
 use mathlib.Core.List.{List, [], _∷_}
 use lib.Dec.{eqb, ltb}
 use Rattle.halfedges.specs.declared.answer.Answer.{Answer}
-use Rattle.halfedges.specs.declared.answer.Answer.the-variants.{Done, Shape, Limit, Twin, Vertex, Unused, Edge, Fan, Point, Room, Short, Field, Extra, Doubled, Valence, Crease}
+use Rattle.halfedges.specs.declared.answer.Answer.the-variants.{Done, Shape, Limit, Twin, Vertex, Unused, Edge, Fan, Point, Room, Short, Field, Extra, Doubled, Valence, Crease, NotOld}
 use Rattle.laws.specs.Below.{any, lowest}
 use Rattle.laws.specs.Parts.{inFront}
 
@@ -65,6 +65,9 @@ VALENCE = numbered 14
 abbrev pub CREASE : ℕ → Verdict
 CREASE = numbered 15
 
+abbrev pub NOT-OLD : Verdict
+NOT-OLD = numbered 16 0
+
 -- what each case of the code's answer is called here
 abbrev pub told : Answer → Verdict
 told Done = DONE
@@ -83,6 +86,7 @@ told (Extra o) = EXTRA o
 told (Doubled h) = DOUBLED h
 told (Valence v) = VALENCE v
 told (Crease e) = CREASE e
+told NotOld = NOT-OLD
 
 -- "Given exactly when"
 unfoldable pub given : Bool → Verdict → Verdict

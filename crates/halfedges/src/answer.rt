@@ -20,6 +20,7 @@ pub enum Answer {
     Doubled(usize),
     Valence(usize),
     Crease(usize),
+    NotOld,
 }
 
 impl Answer {
@@ -43,6 +44,7 @@ impl Answer {
             Answer::Doubled(_) => 13,
             Answer::Valence(_) => 14,
             Answer::Crease(_) => 15,
+            Answer::NotOld => 16,
         }
     }
 
@@ -66,6 +68,7 @@ impl Answer {
             Answer::Doubled(halfedge) => halfedge,
             Answer::Valence(vertex) => vertex,
             Answer::Crease(edge) => edge,
+            Answer::NotOld => 0,
         }
     }
 }

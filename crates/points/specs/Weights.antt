@@ -11,6 +11,10 @@ abbrev pub weightOf : ℕ → Weight
 weightOf zero = Short
 weightOf (suc n) = Paper
 
+abbrev pub weightNumber : Weight → ℕ
+weightNumber Short = 0
+weightNumber Paper = 1
+
 -- "For a valence from 2 to 32 the weight is a whole number of 2^24ths, nearest to the formula" of rule V.3: "the 31 entries"
 abbrev pub entries : List ℕ
 entries =

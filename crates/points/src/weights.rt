@@ -1,7 +1,7 @@
 // The weight of one spoke of an inner vertex.
 ghost use mathlib.Core.Path.{_≡_};
 ghost use Prim.Native.Nat.{_≤_};
-ghost use Rattle.points.specs.Weights.{entry as Weights·entry, share as Weights·share, weightOf};
+ghost use Rattle.points.specs.Weights.{entry as Weights·entry, share as Weights·share, weightOf, weightNumber};
 ghost use Rattle.points.specs.Internal.Relied.{most-corners};
 
 // Which weight is chosen: document 01's, or that of the paper's rule V.3.
@@ -66,6 +66,16 @@ impl Weight {
             return Weight::Short;
         }
         Weight::Paper
+    }
+
+    // Its number in a file.
+    pub fn number(self) -> u32
+        ensures { λ r. ⌜ r ≡ weightNumber self ⌝ }
+    {
+        match self {
+            Weight::Short => 0,
+            Weight::Paper => 1,
+        }
     }
 
     // What one spoke of a vertex with so many corners has.

@@ -1,4 +1,8 @@
 pub mod FieldLaws
-pub mod Verdict
+pub mod FrontToBack
+pub mod AfterTables
 pub mod Outcomes
+pub mod Verdict
+pub mod Places
+pub mod Fronts
 pub mod Told

@@ -1,6 +1,6 @@
 -- What reading leaves where it is done and where it refuses. Assumes nothing.
---     read-done, done-left, refused-left                        each outcome of reading
---     twins-length, verts-length, edges-length, points-length   how many cells are read
+--     read-done, done-left, refused-left        each outcome of reading
+--     twins-length, verts-length, edges-length, creases-length, points-length   how many cells are read
 use Prim.Native.Nat.{ℕ, _*_}
 use mathlib.Core.Path.{_≡_, refl}
 use mathlib.Core.Logic.{_≢_}
@@ -13,36 +13,42 @@ use Rattle.laws.proofs.Tabulate.{length-tabulate}
 use Rattle.halfedges.specs.Refusals.{Verdict, DONE, Said, said, filled}
 use Rattle.tables.specs.Tables.{Tables, tables}
 use Rattle.levels.specs.Refining.{filledTables}
-use Rattle.reading.specs.Reading.{HIn, VIn, readVerdict, twinsIn, vertsIn, edgesIn, pointsIn, Read, readFile}
+use Rattle.points.specs.Weights.{weightNumber}
+use Rattle.cagefile.specs.Fields.{number}
+use Rattle.reading.specs.Reading.{HIn, VIn, EIn, formOf, readVerdict, twinsIn, vertsIn, edgesIn, creasesRead, pointsIn, weightIn, Read, readFile}
 
--- what reading leaves where it is done, with what the lent tables held
-abbrev pub allRead : List ℕ → Tables → List ℤ → Read
-allRead f lent lentPoints =
+-- what reading answers where it is done
+abbrev pub valuesIn : List ℕ → List ℕ
+valuesIn f = number (formOf f) ∷ HIn f ∷ VIn f ∷ EIn f ∷ weightNumber (weightIn f) ∷ []
+
+-- what it leaves then, with what the lent tables held
+abbrev pub allRead : List ℕ → Tables → List ℤ → List ℕ → Read
+allRead f lent lentPoints lentCreases =
     record {
-      answer = record { verdict = DONE; values = HIn f ∷ VIn f ∷ [] };
+      answer = record { verdict = DONE; values = valuesIn f };
       lent = tables (inFront (twinsIn f) (lent .twin)) (inFront (vertsIn f) (lent .vert)) (inFront (edgesIn f) (lent .edge));
       points = inFront (pointsIn f) lentPoints;
+      creases = inFront (creasesRead f) lentCreases;
     }
 
 -- the promise of reading: what it answers, and what it leaves in the lent tables
-abbrev Left : Read → Said (List ℕ) → Tables → List ℤ → Type 0
-Left after answer lent points =
-    (answer ≡ after .answer) × (lent .twin ≡ after .lent .twin) × (lent .vert ≡ after .lent .vert) × (lent .edge ≡ after .lent .edge) × (points ≡ after .points)
+abbrev pub Left : Read → Said (List ℕ) → Tables → List ℤ → List ℕ → Type 0
+Left after answer lent points creases = (answer ≡ after .answer) × (lent ≡ after .lent) × (points ≡ after .points) × (creases ≡ after .creases)
 
-module _ (f : List ℕ) (lent : Tables) (lentPoints : List ℤ) where
-  pub read-done : readVerdict f lent lentPoints ≡ DONE → readFile f lent lentPoints ≡ allRead f lent lentPoints
+module _ (f : List ℕ) (lent : Tables) (lentPoints : List ℤ) (lentCreases : List ℕ) where
+  pub read-done : readVerdict f lent lentPoints lentCreases ≡ DONE → readFile f lent lentPoints lentCreases ≡ allRead f lent lentPoints lentCreases
   unfolding readFile said filledTables filled
   read-done e = rw e
 
-  pub done-left : readVerdict f lent lentPoints ≡ DONE → (h v : ℕ) → h ≡ HIn f → v ≡ VIn f
-      → (now : Tables) (nowPoints : List ℤ) → now ≡ allRead f lent lentPoints .lent → nowPoints ≡ allRead f lent lentPoints .points
-      → Left (readFile f lent lentPoints) (record { verdict = DONE; values = h ∷ v ∷ [] }) now nowPoints
-  done-left e h v p q now nowPoints t u = rw (read-done e, p, q, t, u) (refl, refl, refl, refl, refl)
+  pub done-left : readVerdict f lent lentPoints lentCreases ≡ DONE → (g h v e w : ℕ) → g ≡ number (formOf f) → h ≡ HIn f → v ≡ VIn f → e ≡ EIn f → w ≡ weightNumber (weightIn f)
+      → (now : Tables) (points : List ℤ) (creases : List ℕ) → now ≡ allRead f lent lentPoints lentCreases .lent → points ≡ inFront (pointsIn f) lentPoints → creases ≡ inFront (creasesRead f) lentCreases
+      → Left (readFile f lent lentPoints lentCreases) (record { verdict = DONE; values = g ∷ h ∷ v ∷ e ∷ w ∷ [] }) now points creases
+  done-left d g h v e w a b c i j now points creases t u k = rw (read-done d, a, b, c, i, j, t, u, k) (refl, refl, refl, refl)
 
-  pub refused-left : (v : Verdict) → v ≡ readVerdict f lent lentPoints
-      → v .number ≢ 0 → Left (readFile f lent lentPoints) (record { verdict = v; values = 0 ∷ 0 ∷ [] }) lent lentPoints
+  pub refused-left : (v : Verdict) → v ≡ readVerdict f lent lentPoints lentCreases
+      → v .number ≢ 0 → Left (readFile f lent lentPoints lentCreases) (record { verdict = v; values = 0 ∷ 0 ∷ 0 ∷ 0 ∷ 0 ∷ [] }) lent lentPoints lentCreases
   unfolding readFile said filledTables filled
-  refused-left v e n = rw (← e, ne-eqb _ _ n) (refl, refl, refl, refl, refl)
+  refused-left v e n = rw (← e, ne-eqb _ _ n) (refl, refl, refl, refl)
 
 module _ (f : List ℕ) where
   pub twins-length : length (twinsIn f) ≡ HIn f
@@ -56,6 +62,10 @@ module _ (f : List ℕ) where
   pub edges-length : length (edgesIn f) ≡ HIn f
   unfolding edgesIn
   edges-length = length-tabulate (HIn f) _
+
+  pub creases-length : length (creasesRead f) ≡ EIn f
+  unfolding creasesRead
+  creases-length = length-tabulate (EIn f) _
 
   pub points-length : length (pointsIn f) ≡ 3 * VIn f
   unfolding pointsIn

@@ -1,2 +1,3 @@
 -- What only contracts between functions cite.
-pub mod Room
+pub mod Sound
+pub mod Fronts

@@ -1,17 +1,25 @@
 // The checks of reading: the file from front to back, then the room.
 ghost use mathlib.Core.Path.{_≡_};
-ghost use mathlib.Core.List.{[], _∷_};
+ghost use mathlib.Core.List.{[], _∷_, _++_};
 ghost use Prim.Native.Nat.{_+_, _*_, _≤_, _<_};
+ghost use lib.Dec.{eqb};
 ghost use lib.ListN.{length};
-ghost use Rattle.halfedges.specs.Cage.{most-halfedges, most-vertices};
-ghost use Rattle.halfedges.specs.Refusals.{told, short, first};
+ghost use Rattle.cagefile.specs.declared.fields.Form.the-variants.{One, Two};
+ghost use Rattle.cagefile.specs.Fields.{opening, tableHeads, laterHeads};
+ghost use Rattle.halfedges.specs.Cage.{E, most-halfedges, most-vertices};
+ghost use Rattle.halfedges.specs.Refusals.{FIELD, told, given, short, first};
 ghost use Rattle.tables.specs.Tables.{tables};
-ghost use Rattle.cagefile.specs.Fields.{opening, heads};
-ghost use Rattle.reading.specs.Reading.{past, fieldChecks, fieldsChecks, HIn, VIn, openingChecks, readVerdict};
+ghost use Rattle.reading.specs.Reading.{formIn, HIn, VIn, EIn, twinsIn, past, fieldChecks, otherForm, nothing, openingAsked, twinsAsked, weightAsked, fieldsChecks, frontToBack, both, fileChecks, readVerdict};
+ghost use Rattle.reading.specs.Internal.Sound.{frontChecks, TablesWhole, Sound};
+use crate::copies;
 use cagefile::fields;
+use cagefile::fields::Form;
 use cagefile::numbers;
 use halfedges::answer::Answer;
 use halfedges::table::HalfedgeTable;
+use tables::rules;
+
+// ---- a field
 
 // A field whose head is expected at an offset: its head, its tag and length, its payload.
 fn field_refusal(file: &[u8], at: usize, tag: u8, size: usize) -> Answer
@@ -33,6 +41,16 @@ fn field_refusal(file: &[u8], at: usize, tag: u8, size: usize) -> Answer
     Answer::Done
 }
 
+// ---- the first field
+
+// The form's number as the first payload has it.
+pub fn form_in(file: &[u8]) -> u32
+    requires { ⌜ 9 ≤ length (now file) ⌝ }
+    ensures { λ r. ⌜ r ≡ formIn (now (file .entry)) ⌝ }
+{
+    numbers::number_at(file, 3)
+}
+
 // H as the first payload has it.
 pub fn halfedges_in(file: &[u8]) -> usize
     requires { ⌜ 9 ≤ length (now file) ⌝ }
@@ -49,12 +67,40 @@ pub fn vertices_in(file: &[u8]) -> usize
     numbers::number_at(file, 7) as usize
 }
 
+// The first field, which is to have the number of a form.
+pub fn form_refusal(file: &[u8], form: Form) -> Answer
+    ensures { λ r.
+        let f = now (file .entry) in
+        ⌜ told r ≡ first (fieldChecks f 0 opening ++ (given (otherForm (form ∷ []) f) (FIELD 0) ∷ [])) ⌝ }
+{
+    let head = field_refusal(file, 0, fields::OPENING, fields::COUNTS);
+    if head.number() != 0 {
+        return head;
+    }
+    if form_in(file) != form.number() {
+        return Answer::Field(0);
+    }
+    Answer::Done
+}
+
+// Whether the first payload has the number of no form.
+fn other_form(file: &[u8]) -> bool
+    requires { ⌜ 9 ≤ length (now file) ⌝ }
+    ensures { λ r. ⌜ r ≡ otherForm both (now (file .entry)) ⌝ }
+{
+    let form = form_in(file);
+    if form == 1 {
+        return false;
+    }
+    form != 2
+}
+
 // The form, H and V of the first payload.
 fn opening_refusal(file: &[u8]) -> Answer
     requires { ⌜ 9 ≤ length (now file) ⌝ }
-    ensures { λ r. ⌜ told r ≡ first (openingChecks (now (file .entry))) ⌝ }
+    ensures { λ r. ⌜ told r ≡ first (openingAsked both (now (file .entry)) 0) ⌝ }
 {
-    if numbers::number_at(file, 3) != 1 {
+    if other_form(file) {
         return Answer::Field(0);
     }
     let halfedges = halfedges_in(file);
@@ -77,10 +123,20 @@ fn opening_refusal(file: &[u8]) -> Answer
     Answer::Done
 }
 
-// The fields after the first; past the last nothing may stand.
-fn fields_refusal(file: &[u8], halfedges: usize, vertices: usize) -> Answer
-    requires { ⌜ (halfedges ≤ most-halfedges) × (vertices ≤ most-vertices) ⌝ }
-    ensures { λ r. ⌜ told r ≡ first (fieldsChecks (now (file .entry)) (past 0 opening) (heads halfedges vertices)) ⌝ }
+// ---- the fields after it
+
+// Where the field after the tables has its head.
+pub fn after_tables(halfedges: usize) -> usize
+    requires { ⌜ halfedges ≤ most-halfedges ⌝ }
+    ensures { λ r. ⌜ r ≡ 18 + 6 * halfedges ⌝ }
+{
+    fields::HEAD + fields::COUNTS + 3 * (fields::HEAD + 2 * halfedges)
+}
+
+// The fields of TWIN, VERT and EDGE.
+fn tables_refusal(file: &[u8], halfedges: usize) -> Answer
+    requires { ⌜ halfedges ≤ most-halfedges ⌝ }
+    ensures { λ r. ⌜ told r ≡ first (frontChecks (now (file .entry)) (past 0 opening) (tableHeads halfedges)) ⌝ }
 {
     let table = 2 * halfedges;
     let twin_at = fields::HEAD + fields::COUNTS;
@@ -94,39 +150,162 @@ fn fields_refusal(file: &[u8], halfedges: usize, vertices: usize) -> Answer
         return vert;
     }
     let edge_at = vert_at + fields::HEAD + table;
-    let edge = field_refusal(file, edge_at, fields::EDGE, table);
-    if edge.number() != 0 {
-        return edge;
-    }
-    let points_at = edge_at + fields::HEAD + table;
-    let points = field_refusal(file, points_at, fields::POINTS, 12 * vertices);
-    if points.number() != 0 {
-        return points;
-    }
-    let end_at = points_at + fields::HEAD + 12 * vertices;
-    let end = field_refusal(file, end_at, fields::END, 0);
+    field_refusal(file, edge_at, fields::EDGE, table)
+}
+
+// The end field; past it nothing may stand.
+fn end_refusal(file: &[u8], at: usize) -> Answer
+    requires { ⌜ at ≤ 65536 ⌝ }
+    ensures { λ r. ⌜ told r ≡ first (fieldsChecks (now (file .entry)) at (record { tag = 0x7F; size = 0 } ∷ [])) ⌝ }
+{
+    let end = field_refusal(file, at, fields::END, 0);
     if end.number() != 0 {
         return end;
     }
-    let extra_at = end_at + fields::HEAD;
+    let extra_at = at + fields::HEAD;
     if extra_at < file.len() {
         return Answer::Extra(extra_at);
     }
     Answer::Done
 }
 
+// What follows the tables in form 1.
+fn plain_refusal(file: &[u8], halfedges: usize, vertices: usize) -> Answer
+    requires { ⌜ (halfedges ≤ most-halfedges) × (vertices ≤ most-vertices) ⌝ }
+    ensures { λ r. ⌜ told r ≡ first (fieldsChecks (now (file .entry)) (18 + 6 * halfedges) (laterHeads One 0 vertices)) ⌝ }
+{
+    let at = after_tables(halfedges);
+    let points = field_refusal(file, at, fields::POINTS, 12 * vertices);
+    if points.number() != 0 {
+        return points;
+    }
+    end_refusal(file, at + fields::HEAD + 12 * vertices)
+}
+
+// The field of the weight, and its byte.
+fn weight_refusal(file: &[u8], at: usize) -> Answer
+    requires { ⌜ at ≤ 65535 ⌝ }
+    ensures { λ r.
+        let f = now (file .entry) in
+        ⌜ told r ≡ first (fieldChecks f at (record { tag = 0x31; size = 1 }) ++ weightAsked f at) ⌝ }
+{
+    let weight = field_refusal(file, at, fields::WEIGHT, 1);
+    if weight.number() != 0 {
+        return weight;
+    }
+    if 1 < file[at + fields::HEAD] {
+        return Answer::Field(at);
+    }
+    Answer::Done
+}
+
+// The fields that follow the tables in form 2.
+fn later_refusal(file: &[u8], halfedges: usize, edges: usize, vertices: usize) -> Answer
+    requires { ⌜ (halfedges ≤ most-halfedges) × (edges ≤ most-halfedges) × (vertices ≤ most-vertices) ⌝ }
+    ensures { λ r.
+        let f = now (file .entry) in
+        ⌜ told r
+        ≡ first (frontToBack f (18 + 6 * halfedges) (nothing ∷ nothing ∷ weightAsked f ∷ []) (laterHeads Two edges vertices)) ⌝ }
+{
+    let creases_at = after_tables(halfedges);
+    let creases = field_refusal(file, creases_at, fields::CREASES, edges);
+    if creases.number() != 0 {
+        return creases;
+    }
+    let points_at = creases_at + fields::HEAD + edges;
+    let points = field_refusal(file, points_at, fields::POINTS, 12 * vertices);
+    if points.number() != 0 {
+        return points;
+    }
+    let weight_at = points_at + fields::HEAD + 12 * vertices;
+    let weight = weight_refusal(file, weight_at);
+    if weight.number() != 0 {
+        return weight;
+    }
+    end_refusal(file, weight_at + fields::HEAD + 1)
+}
+
+// What follows the tables in form 2: check 3, and with as many creases as there are edges the fields.
+fn creased_refusal(file: &[u8], halfedges: usize, vertices: usize) -> Answer
+    requires { ⌜ TablesWhole (now file) halfedges vertices ⌝ }
+    ensures { λ r.
+        let f = now (file .entry) in
+        ⌜ told r
+        ≡ first (twinsAsked f 0
+        ++ frontToBack f (18 + 6 * halfedges) (nothing ∷ nothing ∷ weightAsked f ∷ []) (laterHeads Two (E (twinsIn f)) vertices)) ⌝ }
+{
+    let mut twin = [0u32; HalfedgeTable::MOST_HALFEDGES];
+    copies::copy_twins(file, copies::TWIN_AT, &mut twin, halfedges);
+    let pairs = rules::check_twins(&twin[..halfedges]);
+    if pairs.number() != 0 {
+        return pairs;
+    }
+    let edges = rules::count_edges(&twin[..halfedges]);
+    later_refusal(file, halfedges, edges, vertices)
+}
+
+// ---- the file, and the room
+
+// The file from front to back.
+fn file_refusal(file: &[u8]) -> Answer
+    ensures { λ r. ⌜ told r ≡ first (fileChecks both (now (file .entry))) ⌝ }
+{
+    let head = field_refusal(file, 0, fields::OPENING, fields::COUNTS);
+    if head.number() != 0 {
+        return head;
+    }
+    let counts = opening_refusal(file);
+    if counts.number() != 0 {
+        return counts;
+    }
+    let halfedges = halfedges_in(file);
+    let vertices = vertices_in(file);
+    let tables = tables_refusal(file, halfedges);
+    if tables.number() != 0 {
+        return tables;
+    }
+    if form_in(file) == 2 {
+        return creased_refusal(file, halfedges, vertices);
+    }
+    plain_refusal(file, halfedges, vertices)
+}
+
+// Whether a file that reads is of form 2.
+pub fn has_creases(file: &[u8]) -> bool
+    requires { ⌜ 9 ≤ length (now file) ⌝ }
+    ensures { λ r. ⌜ r ≡ eqb (formIn (now (file .entry))) 2 ⌝ }
+{
+    form_in(file) == 2
+}
+
+// How many creases a file that reads has: the length in their field's head.
+pub fn edges_in(file: &[u8]) -> usize
+    requires { ⌜ Sound (now file) ⌝ }
+    ensures { λ r. ⌜ (r ≡ EIn (now (file .entry))) × (r ≤ most-halfedges) ⌝ }
+{
+    if has_creases(file) {
+        let head = after_tables(halfedges_in(file));
+        return numbers::number_at(file, head + 1) as usize;
+    }
+    0
+}
+
 // The lengths of the lent tables, in the order of their numbers, against what the file needs.
 fn room_refusal(
     halfedges: usize,
     vertices: usize,
+    edges: usize,
     twin: usize,
     vert: usize,
     edge: usize,
     points: usize,
+    creases: usize,
 ) -> Answer
     requires { ⌜ vertices < 65536 ⌝ }
     ensures { λ r.
-        ⌜ told r ≡ first (short 1 halfedges twin ∷ short 2 halfedges vert ∷ short 3 halfedges edge ∷ short 4 (3 * vertices) points ∷ []) ⌝ }
+        ⌜ told r
+        ≡ first (short 1 halfedges twin ∷ short 2 halfedges vert ∷ short 3 halfedges edge ∷ short 4 (3 * vertices) points
+        ∷ short 7 edges creases ∷ []) ⌝ }
 {
     if twin < halfedges {
         return Answer::Room(1);
@@ -140,35 +319,40 @@ fn room_refusal(
     if points < 3 * vertices {
         return Answer::Room(4);
     }
+    if creases < edges {
+        return Answer::Room(7);
+    }
     Answer::Done
 }
 
 // The refusal of reading, or done.
-pub fn refusal(file: &[u8], twin: &[u32], vert: &[u32], edge: &[u32], points: &[i32]) -> Answer
+pub fn refusal(
+    file: &[u8],
+    twin: &[u32],
+    vert: &[u32],
+    edge: &[u32],
+    points: &[i32],
+    creases: &[u8],
+) -> Answer
     ensures { λ r.
         ⌜ told r ≡ readVerdict (now (file .entry)) (tables (now (twin .entry)) (now (vert .entry)) (now (edge .entry)))
-        (now (points .entry)) ⌝ }
+        (now (points .entry)) (now (creases .entry)) ⌝ }
 {
-    let head = field_refusal(file, 0, fields::OPENING, fields::COUNTS);
-    if head.number() != 0 {
-        return head;
-    }
-    let counts = opening_refusal(file);
-    if counts.number() != 0 {
-        return counts;
+    let answer = file_refusal(file);
+    if answer.number() != 0 {
+        return answer;
     }
     let halfedges = halfedges_in(file);
     let vertices = vertices_in(file);
-    let fields = fields_refusal(file, halfedges, vertices);
-    if fields.number() != 0 {
-        return fields;
-    }
+    let edges = edges_in(file);
     room_refusal(
         halfedges,
         vertices,
+        edges,
         twin.len(),
         vert.len(),
         edge.len(),
         points.len(),
+        creases.len(),
     )
 }

@@ -1,98 +1,66 @@
-// Reading a cage file into lent tables: all checks first, then the copies.
+// Reading a cage file of either form into lent tables: all checks first, then the copies.
 ghost use mathlib.Core.Path.{_≡_};
-ghost use Prim.Native.Nat.{_+_, _*_, _≤_, _<_};
+ghost use Prim.Native.Nat.{_+_, _*_, _≤_};
 ghost use lib.ListN.{length};
-ghost use Rattle.laws.specs.Below.{tabulate};
 ghost use Rattle.laws.specs.Parts.{inFront};
 ghost use Rattle.tables.specs.Tables.{tables};
-ghost use Rattle.cagefile.specs.Numbers.{u16At, u32At, asTwin, signed};
-ghost use Rattle.reading.specs.Reading.{twinsIn, vertsIn, edgesIn, pointsIn, readFile, reported};
-ghost use Rattle.reading.specs.Internal.Room.{Roomy};
+ghost use Rattle.points.specs.Weights.{weightNumber};
+ghost use Rattle.reading.specs.Reading.{HIn, VIn, EIn, twinsIn, vertsIn, edgesIn, creasesRead, pointsIn, weightIn, readFile, reported};
+ghost use Rattle.reading.specs.Internal.Sound.{Sound, RoomFor};
 use cagefile::fields;
-use cagefile::numbers;
 use halfedges::answer::Answer;
-use halfedges::table::HalfedgeTable;
 
-mod checks;
+pub mod checks;
+mod copies;
 
-// The answer of reading: H and V where it is done, zeros where it refuses.
+// The answer of reading: the form, H, V, E and the weight's number where it is done, zeros where it refuses. Of form 1 E and the weight
+// are zero too.
 pub struct Reading {
     pub answer: Answer,
+    pub form: u32,
     pub halfedges: usize,
     pub vertices: usize,
+    pub edges: usize,
+    pub weight: u32,
 }
 
-// A number of the TWIN payload as a twin: only 65535 becomes the marker.
-fn as_twin(number: u32) -> u32
-    ensures { λ r. ⌜ r ≡ asTwin number ⌝ }
-{
-    if number == fields::NO_TWIN {
-        HalfedgeTable::NO_TWIN
-    } else {
-        number
-    }
-}
-
-// The TWIN payload into the first cells of its table.
-fn copy_twins(file: &[u8], at: usize, twin: &mut [u32], count: usize)
-    requires { ⌜ (at + 2 * count ≤ length (now file)) × (count ≤ length (now twin)) ⌝ }
-    ensures { λ _.
-        ⌜ now (twin .exit) ≡ inFront (tabulate count (λ h. asTwin (u16At (now (file .entry)) (at + 2 * h)))) (now (twin .entry)) ⌝ }
-{
-    let mut halfedge = 0;
-    while halfedge < count {
-        let number = numbers::number_at(file, at + 2 * halfedge);
-        twin[halfedge] = as_twin(number);
-        halfedge += 1;
-    }
-}
-
-// The VERT or the EDGE payload, taken as it stands.
-fn copy_numbers(file: &[u8], at: usize, table: &mut [u32], count: usize)
-    requires { ⌜ (at + 2 * count ≤ length (now file)) × (count ≤ length (now table)) ⌝ }
-    ensures { λ _. ⌜ now (table .exit) ≡ inFront (tabulate count (λ h. u16At (now (file .entry)) (at + 2 * h))) (now (table .entry)) ⌝ }
-{
-    let mut halfedge = 0;
-    while halfedge < count {
-        table[halfedge] = numbers::number_at(file, at + 2 * halfedge);
-        halfedge += 1;
-    }
-}
-
-// The points' payload.
-fn copy_points(file: &[u8], at: usize, points: &mut [i32], count: usize)
-    requires { ⌜ (at + 4 * count ≤ length (now file)) × (count ≤ length (now points)) ⌝ }
-    ensures { λ _.
-        ⌜ now (points .exit) ≡ inFront (tabulate count (λ i. signed (u32At (now (file .entry)) (at + 4 * i))))
-        (now (points .entry)) ⌝ }
-{
-    let mut index = 0;
-    while index < count {
-        points[index] = numbers::coordinate_at(file, at + 4 * index);
-        index += 1;
-    }
-}
-
-// The payloads into the lent tables, once all checks are passed.
-fn copy(file: &[u8], twin: &mut [u32], vert: &mut [u32], edge: &mut [u32], points: &mut [i32])
-    requires { ⌜ Roomy (now file) (tables (now twin) (now vert) (now edge)) (now points) ⌝ }
+// The payloads of the three tables.
+fn copy_tables(file: &[u8], twin: &mut [u32], vert: &mut [u32], edge: &mut [u32])
+    requires { ⌜ (18 + 6 * HIn (now file) ≤ length (now file)) × (HIn (now file) ≤ length (now twin))
+        × (HIn (now file) ≤ length (now vert)) × (HIn (now file) ≤ length (now edge)) ⌝ }
     ensures { λ _.
         let f = now (file .entry) in
         ⌜ (now (twin .exit) ≡ inFront (twinsIn f) (now (twin .entry))) × (now (vert .exit) ≡ inFront (vertsIn f) (now (vert .entry)))
-        × (now (edge .exit) ≡ inFront (edgesIn f) (now (edge .entry)))
-        × (now (points .exit) ≡ inFront (pointsIn f) (now (points .entry))) ⌝ }
+        × (now (edge .exit) ≡ inFront (edgesIn f) (now (edge .entry))) ⌝ }
 {
     let halfedges = checks::halfedges_in(file);
-    let vertices = checks::vertices_in(file);
     let table = 2 * halfedges;
-    let twin_at = fields::HEAD + fields::COUNTS + fields::HEAD;
-    copy_twins(file, twin_at, &mut *twin, halfedges);
-    let vert_at = twin_at + table + fields::HEAD;
-    copy_numbers(file, vert_at, &mut *vert, halfedges);
+    copies::copy_twins(file, copies::TWIN_AT, &mut *twin, halfedges);
+    let vert_at = copies::TWIN_AT + table + fields::HEAD;
+    copies::copy_numbers(file, vert_at, &mut *vert, halfedges);
     let edge_at = vert_at + table + fields::HEAD;
-    copy_numbers(file, edge_at, &mut *edge, halfedges);
-    let points_at = edge_at + table + fields::HEAD;
-    copy_points(file, points_at, &mut *points, 3 * vertices);
+    copies::copy_numbers(file, edge_at, &mut *edge, halfedges);
+}
+
+// The payloads of points and creases, and the weight's number: in form 2 the creases come first, in form 1 there are only points.
+fn copy_rest(file: &[u8], points: &mut [i32], creases: &mut [u8]) -> u32
+    requires { ⌜ Sound (now file) × (3 * VIn (now file) ≤ length (now points)) × (EIn (now file) ≤ length (now creases)) ⌝ }
+    ensures { λ r.
+        let f = now (file .entry) in
+        ⌜ (r ≡ weightNumber (weightIn f)) × (now (points .exit) ≡ inFront (pointsIn f) (now (points .entry)))
+        × (now (creases .exit) ≡ inFront (creasesRead f) (now (creases .entry))) ⌝ }
+{
+    let coordinates = 3 * checks::vertices_in(file);
+    let at = checks::after_tables(checks::halfedges_in(file)) + fields::HEAD;
+    if !checks::has_creases(file) {
+        copies::copy_points(file, at, &mut *points, coordinates);
+        return 0;
+    }
+    let edges = checks::edges_in(file);
+    copies::copy_creases(file, at, &mut *creases, edges);
+    let points_at = at + edges + fields::HEAD;
+    copies::copy_points(file, points_at, &mut *points, coordinates);
+    copies::byte_at(file, points_at + 4 * coordinates + fields::HEAD)
 }
 
 // Reads any bytes into lent tables of any length.
@@ -102,27 +70,37 @@ pub fn read(
     vert: &mut [u32],
     edge: &mut [u32],
     points: &mut [i32],
+    creases: &mut [u8],
 ) -> Reading
     ensures { λ r.
         let after = readFile (now (file .entry)) (tables (now (twin .entry)) (now (vert .entry)) (now (edge .entry)))
-        (now (points .entry)) in
-        ⌜ (reported r ≡ after .answer) × (now (twin .exit) ≡ after .lent .twin) × (now (vert .exit) ≡ after .lent .vert)
-        × (now (edge .exit) ≡ after .lent .edge) × (now (points .exit) ≡ after .points) ⌝ }
+        (now (points .entry)) (now (creases .entry)) in
+        ⌜ (reported r ≡ after .answer) × (tables (now (twin .exit)) (now (vert .exit)) (now (edge .exit)) ≡ after .lent)
+        × (now (points .exit) ≡ after .points) × (now (creases .exit) ≡ after .creases) ⌝ }
 {
-    let answer = checks::refusal(file, &*twin, &*vert, &*edge, &*points);
+    let answer = checks::refusal(file, &*twin, &*vert, &*edge, &*points, &*creases);
     if answer.number() != 0 {
         return Reading {
             answer,
+            form: 0,
             halfedges: 0,
             vertices: 0,
+            edges: 0,
+            weight: 0,
         };
     }
+    let form = checks::form_in(file);
     let halfedges = checks::halfedges_in(file);
     let vertices = checks::vertices_in(file);
-    copy(file, &mut *twin, &mut *vert, &mut *edge, &mut *points);
+    let edges = checks::edges_in(file);
+    copy_tables(file, &mut *twin, &mut *vert, &mut *edge);
+    let weight = copy_rest(file, &mut *points, &mut *creases);
     Reading {
         answer: Answer::Done,
+        form,
         halfedges,
         vertices,
+        edges,
+        weight,
     }
 }

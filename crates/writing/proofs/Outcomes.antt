@@ -4,15 +4,14 @@ use Prim.Native.Nat.{ℕ}
 use mathlib.Core.Path.{_≡_, refl, sym, ap, _∙_}
 use mathlib.Core.Logic.{_≢_}
 use mathlib.Core.List.{List}
-use lib.IntN.{ℤ}
 use lib.ListN.{length}
 use borrow.Author.Tests.{ne-eqb}
 use Rattle.laws.specs.Parts.{inFront}
 use Rattle.halfedges.specs.declared.answer.Answer.{Answer}
 use Rattle.halfedges.specs.Refusals.{Verdict, DONE, told, said, filled}
 use Rattle.halfedges.proofs.Told.{zero-done}
-use Rattle.tables.specs.Tables.{Tables}
-use Rattle.cagefile.specs.Fields.{file}
+use Rattle.cagefile.specs.declared.fields.Form.{Form}
+use Rattle.cagefile.specs.Fields.{Cage, file}
 use Rattle.writing.specs.Writing.{writeVerdict, written, writeFile}
 
 -- a tells the verdict v, and n is its number
@@ -31,7 +30,7 @@ module _ (a : Answer) {v : Verdict} {n : ℕ} (e : told a ≡ v) (m : n ≡ told
     done-left z s f = rw (← e, zero-done a (sym m ∙ z)) (ap (λ k. record { verdict = DONE; values = k }) s, f)
 
 -- what writing leaves where it is done
-pub write-done : (c : Tables) (points : List ℤ) (lent : List ℕ) → writeVerdict c points lent ≡ DONE
-    → writeFile c points lent ≡ record { answer = record { verdict = DONE; values = length (file c points) }; file = inFront (file c points) lent }
+pub write-done : (form : Form) (w : Cage) (lent : List ℕ) → writeVerdict form w lent ≡ DONE
+    → writeFile form w lent ≡ record { answer = record { verdict = DONE; values = length (file form w) }; file = inFront (file form w) lent }
 unfolding writeFile written said filled
-write-done c points lent e = rw e
+write-done form w lent e = rw e

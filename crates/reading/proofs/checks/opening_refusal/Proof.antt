@@ -8,7 +8,7 @@ use lib.Dec.{eqb}
 use borrow.Author.Tests.{eq-eqb, ne-eqb}
 use Rattle.halfedges.specs.Refusals.{given, first}
 use Rattle.halfedges.specs.Counts.{aboveLimit}
-use Rattle.reading.specs.Reading.{formIn, HIn, VIn, openingChecks}
+use Rattle.reading.specs.Reading.{HIn, VIn, otherForm, openingAsked, both}
 use Rattle.reading.proofs.checks.opening_refusal.Statement.{statement}
 use Rattle.reading.proofs.checks.opening_refusal.Tie as tie
 
@@ -16,8 +16,8 @@ module _ (n : tie.After-vertices-in) where
   abbrev f : List ℕ
   f = n .before .before .before .before .before .args .file .now
 
-  form : eqb (formIn f) 1 ≡ true
-  form = eq-eqb _ _ (sym (n .before .before .before .number-at .ensures .0) ∙ n .before .before .if1 .left)
+  form : otherForm both f ≡ false
+  form = sym (n .before .before .before .other-form .ensures) ∙ n .before .before .if1 .left
 
   halfedges : n .before .halfedges-in .result ≡ HIn f
   halfedges = n .before .halfedges-in .ensures .0
@@ -36,12 +36,12 @@ module _ (c : tie.Else3) where
 limits : (c : tie.After-above-limit) → c .above-limit .result ≡ aboveLimit (HIn (f (c .before .before .before))) (VIn (f (c .before .before .before))) 0
 limits c = c .above-limit .ensures ∙ ap₂ (λ h v. aboveLimit h v 0) (halfedges (c .before .before .before)) (vertices (c .before .before .before))
 
-number-at-requires : tie.Need-number-at-requires
-number-at-requires c κs = search needs
+other-form-requires : tie.Need-other-form-requires
+other-form-requires c κs = search needs
 
 returns : tie.Need-returns
-unfolding openingChecks first given
-returns c = simp (ne-eqb _ _ (λ e. c .if1 .taken (c .before .number-at .ensures .0 ∙ e)))
+unfolding openingAsked first given
+returns c = simp (sym (c .before .other-form .ensures) ∙ c .if1 .taken)
 
 halfedges-in-requires : tie.Need-halfedges-in-requires
 halfedges-in-requires c κs = search needs
@@ -50,11 +50,11 @@ vertices-in-requires : tie.Need-vertices-in-requires
 vertices-in-requires c κs = search needs
 
 returns-2 : tie.Need-returns-2
-unfolding openingChecks first given
+unfolding openingAsked first given
 returns-2 c = simp (form (c .before), eq-eqb _ _ (sym (halfedges (c .before)) ∙ c .if2 .taken))
 
 returns-3 : tie.Need-returns-3
-unfolding openingChecks first given
+unfolding openingAsked first given
 returns-3 c =
     let n = c .before .before in
     simp (form n, ne-eqb _ _ (λ e. c .before .if2 .left (halfedges n ∙ e)), ne-eqb _ _ (λ e. c .if3 .taken (ap (λ k. k % 3) (halfedges n) ∙ e)))
@@ -63,13 +63,13 @@ above-limit-requires : tie.Need-above-limit-requires
 above-limit-requires c κs = search needs
 
 returns-4 : tie.Need-returns-4
-unfolding openingChecks first given
+unfolding openingAsked first given
 returns-4 c =
     let d = c .before .before in
     simp (form (d .before .before), some d, threes d, sym (limits (c .before)) ∙ c .if4 .taken)
 
 returns-5 : tie.Need-returns-5
-unfolding openingChecks first given
+unfolding openingAsked first given
 returns-5 c =
     let d = c .before .before in
     simp (form (d .before .before), some d, threes d, sym (limits (c .before)) ∙ c .if4 .left)
@@ -78,7 +78,7 @@ pub opening-refusal-spec : {M : Type 1} → statement M
 opening-refusal-spec =
     tie.close
     (tie.spec
-    number-at-requires
+    other-form-requires
     returns
     halfedges-in-requires
     vertices-in-requires

@@ -1,128 +1,93 @@
--- `refusal` goes through the verdict's parts in order: each that passes leaves what the later ones answer.
-use Rattle.halfedges.proofs.Checks.{first-passes, first-zero, first-more, first-stops}
+-- `refusal` has the file checked, and then the room.
 use borrow.Author.Needs.{needs}
-use Prim.Native.Nat.{ℕ, _*_, _≤_}
-use mathlib.Core.Path.{_≡_, sym, ap₂, _∙_}
-use mathlib.Core.List.{List, [], _∷_, _++_}
+use Prim.Native.Nat.{ℕ, _+_, _*_, _≤_}
+use mathlib.Core.Path.{_≡_, sym, ap, _∙_}
+use mathlib.Core.List.{List, [], _∷_}
+use native.Mathlib.Omega.{arith}
 use lib.ListN.{length}
 use Rattle.halfedges.specs.Refusals.{Verdict, DONE, short, first}
+use Rattle.halfedges.proofs.Checks.{first-zero, first-more, first-stops}
 use Rattle.tables.specs.Tables.{tables}
 use Rattle.levels.specs.Refining.{shortTables}
-use Rattle.cagefile.specs.Fields.{opening, heads}
-use Rattle.reading.specs.Reading.{past, fieldChecks, fieldsChecks, HIn, VIn, openingChecks, readVerdict}
-use Rattle.reading.proofs.FieldLaws.{field-at}
-use Rattle.reading.proofs.Verdict.{opening-kept}
+use Rattle.reading.specs.Reading.{HIn, VIn, EIn, fileChecks, both, shortRoom, readVerdict}
+use Rattle.reading.specs.Internal.Sound.{Sound}
+use Rattle.reading.proofs.Verdict.{known-both, checks-sound, sound-length}
 use Rattle.reading.proofs.checks.refusal.Statement.{statement}
 use Rattle.reading.proofs.checks.refusal.Tie as tie
 
-module _ (s : tie.Start) where
-  abbrev f : List ℕ
-  f = s .args .file .now
-
-  abbrev verdict : Verdict
-  verdict = readVerdict f (tables (s .args .twin .now) (s .args .vert .now) (s .args .edge .now)) (s .args .points .now)
-
-  -- the room, for H and V
-  abbrev room : ℕ → ℕ → List Verdict
-  room h v = short 1 h (length (s .args .twin .now)) ∷ short 2 h (length (s .args .vert .now)) ∷ short 3 h (length (s .args .edge .now)) ∷ short 4 (3 * v) (length (s .args .points .now)) ∷ []
-
-  -- the later fields, then the room
-  abbrev rest : ℕ → ℕ → List Verdict
-  rest h v = fieldsChecks f (past 0 opening) (heads h v) ++ room h v
-
--- the function's entry, from after each test
-abbrev start₁ : tie.Else1 → tie.Start
-start₁ c = c .before .before .before .before .before .before .before
-
-abbrev start₂ : tie.Else2 → tie.Start
-start₂ c = start₁ (c .before .before .before)
-
-abbrev start₃ : tie.Else3 → tie.Start
-start₃ c = start₂ (c .before .before .before .before .before)
-
--- ---- after the first head
-
+-- where the file passes
 module _ (c : tie.Else1) where
-  head-done : first (fieldChecks (f (start₁ c)) 0 opening) ≡ DONE
-  head-done = first-zero _ (rw (c .before .before .field-refusal .ensures) at (sym (c .before .number .ensures) ∙ c .if1 .left))
+  abbrev start : tie.Start
+  start = c .before .before .before .before .before .before .before .before
 
-  whole : 9 ≤ length (f (start₁ c))
-  whole = field-at _ 0 opening head-done .whole
+  abbrev f : List ℕ
+  f = start .args .file .now
 
-  head-passed : verdict (start₁ c) ≡ first (openingChecks (f (start₁ c)) ++ rest (start₁ c) (HIn (f (start₁ c))) (VIn (f (start₁ c))))
-  unfolding readVerdict shortTables
-  head-passed = first-more _ _ head-done
+  done : first (fileChecks both f) ≡ DONE
+  done = first-zero _ (rw (c .before .before .file-refusal .ensures) at (sym (c .before .number .ensures) ∙ c .if1 .left))
 
--- ---- after the first payload
+  sound : Sound f
+  sound = checks-sound f both (known-both f) done
 
-module _ (c : tie.Else2) where
-  counts-done : first (openingChecks (f (start₂ c))) ≡ DONE
-  counts-done = first-zero _ (rw (c .before .before .opening-refusal .ensures) at (sym (c .before .number2 .ensures) ∙ c .if2 .left))
+  whole : 9 ≤ length f
+  whole = omega (arith, sound-length f sound)
 
-  counts-passed : verdict (start₂ c) ≡ first (rest (start₂ c) (HIn (f (start₂ c))) (VIn (f (start₂ c))))
-  counts-passed = head-passed (c .before .before .before) ∙ first-more _ _ counts-done
+  -- the room, for H, V and E
+  abbrev room : ℕ → ℕ → ℕ → Verdict
+  room h v e =
+      first
+      (short 1 h (length (start .args .twin .now))
+      ∷ short 2 h (length (start .args .vert .now))
+      ∷ short 3 h (length (start .args .edge .now))
+      ∷ short 4 (3 * v) (length (start .args .points .now))
+      ∷ short 7 e (length (start .args .creases .now))
+      ∷ [])
 
--- what is left to check once the opening has passed, with H and V as the code has them
-counts-had : (c : tie.After-vertices-in) → verdict (start₂ (c .before .before)) ≡ first (rest (start₂ (c .before .before)) (c .before .halfedges-in .result) (c .vertices-in .result))
-counts-had c = counts-passed (c .before .before) ∙ sym (ap₂ (λ h v. first (rest (start₂ (c .before .before)) h v)) (c .before .halfedges-in .ensures .0) (c .vertices-in .ensures .0))
+  room-left : readVerdict f (tables (start .args .twin .now) (start .args .vert .now) (start .args .edge .now)) (start .args .points .now) (start .args .creases .now) ≡ room (HIn f) (VIn f) (EIn f)
+  unfolding readVerdict shortRoom shortTables
+  room-left = first-more (fileChecks both f) _ done
 
-fields-passed : (c : tie.Else3) → verdict (start₃ c) ≡ first (room (start₃ c) (c .before .before .before .before .halfedges-in .result) (c .before .before .before .vertices-in .result))
-fields-passed c = counts-had (c .before .before .before) ∙ first-passes _ _ _ (c .before .before .fields-refusal .ensures) (sym (c .before .number3 .ensures) ∙ c .if3 .left)
-
-field-refusal-requires : tie.Need-field-refusal-requires
-field-refusal-requires c κs = search needs
+file-refusal-requires : tie.Need-file-refusal-requires
+file-refusal-requires c κs = search needs
 
 number-requires : tie.Need-number-requires
 number-requires c κs = search needs
 
 returns : tie.Need-returns
 unfolding readVerdict
-returns c = first-stops _ _ _ (c .before .before .field-refusal .ensures) (λ z. c .if1 .taken (c .before .number .ensures ∙ z))
-
-opening-refusal-requires : tie.Need-opening-refusal-requires
-opening-refusal-requires c κs = whole c
-
-number-requires-2 : tie.Need-number-requires-2
-number-requires-2 c κs = search needs
-
-returns-2 : tie.Need-returns-2
-returns-2 c = first-stops _ _ _ (c .before .before .opening-refusal .ensures) (λ z. c .if2 .taken (c .before .number2 .ensures ∙ z)) ∙ sym (head-passed (c .before .before .before))
+returns c = first-stops _ _ _ (c .before .before .file-refusal .ensures) (λ z. c .if1 .taken (c .before .number .ensures ∙ z))
 
 halfedges-in-requires : tie.Need-halfedges-in-requires
-halfedges-in-requires c κs = whole (c .before .before .before)
+halfedges-in-requires c κs = whole c
 
 vertices-in-requires : tie.Need-vertices-in-requires
-vertices-in-requires c κs = whole (c .before .before .before .before)
+vertices-in-requires c κs = whole (c .before)
 
-fields-refusal-requires : tie.Need-fields-refusal-requires
-fields-refusal-requires c κs = let kept = opening-kept _ (counts-done (c .before .before)) in (rw (c .before .halfedges-in .ensures .0) (kept .1), rw (c .vertices-in .ensures .0) (kept .2))
-
-number-requires-3 : tie.Need-number-requires-3
-number-requires-3 c κs = search needs
-
-returns-3 : tie.Need-returns-3
-returns-3 c = first-stops _ _ _ (c .before .before .fields-refusal .ensures) (λ z. c .if3 .taken (c .before .number3 .ensures ∙ z)) ∙ sym (counts-had (c .before .before .before))
+edges-in-requires : tie.Need-edges-in-requires
+edges-in-requires c κs = sound (c .before .before)
 
 room-refusal-requires : tie.Need-room-refusal-requires
-room-refusal-requires c κs = search needs
+room-refusal-requires c κs = c .before .vertices-in .ensures .1
 
-returns-4 : tie.Need-returns-4
-returns-4 c = c .room-refusal .ensures ∙ sym (fields-passed (c .before))
+returns-2 : tie.Need-returns-2
+returns-2 c =
+    let e = c .before in
+    let v = e .before in
+    let h = v .before in
+    let r = room (h .before) in
+    c .room-refusal .ensures
+    ∙ (λ i. r (h .halfedges-in .ensures .0 i) (v .vertices-in .ensures .0 i) (e .edges-in .ensures .0 i))
+    ∙ sym (room-left (h .before))
 
 pub refusal-spec : {M : Type 1} → statement M
 refusal-spec =
     tie.close
     (tie.spec
-    field-refusal-requires
+    file-refusal-requires
     number-requires
     returns
-    opening-refusal-requires
-    number-requires-2
-    returns-2
     halfedges-in-requires
     vertices-in-requires
-    fields-refusal-requires
-    number-requires-3
-    returns-3
+    edges-in-requires
     room-refusal-requires
-    returns-4)
+    returns-2)

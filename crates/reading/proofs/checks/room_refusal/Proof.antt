@@ -1,4 +1,4 @@
--- `room_refusal` goes through the four tables in order.
+-- `room_refusal` goes through the five tables in order.
 use borrow.Author.Needs.{needs}
 use borrow.Author.Tests.{lt-ltb, le-ltb}
 use Rattle.halfedges.specs.Refusals.{given, short, first}
@@ -26,7 +26,15 @@ returns-4 c = let b = c .before .before in simp (le-ltb _ _ (b .before .if1 .lef
 
 returns-5 : tie.Need-returns-5
 unfolding short first given
-returns-5 c = let b = c .before .before in simp (le-ltb _ _ (b .before .if1 .left), le-ltb _ _ (b .if2 .left), le-ltb _ _ (c .before .if3 .left), le-ltb _ _ (c .if4 .left))
+returns-5 c =
+    let b = c .before .before in
+    simp (le-ltb _ _ (b .before .before .if1 .left), le-ltb _ _ (b .before .if2 .left), le-ltb _ _ (b .if3 .left), le-ltb _ _ (c .before .if4 .left), lt-ltb _ _ (c .if5 .taken))
+
+returns-6 : tie.Need-returns-6
+unfolding short first given
+returns-6 c =
+    let b = c .before .before in
+    simp (le-ltb _ _ (b .before .before .if1 .left), le-ltb _ _ (b .before .if2 .left), le-ltb _ _ (b .if3 .left), le-ltb _ _ (c .before .if4 .left), le-ltb _ _ (c .if5 .left))
 
 pub room-refusal-spec : {M : Type 1} → statement M
-room-refusal-spec = tie.close (tie.spec returns returns-2 returns-3 mul-if4 returns-4 returns-5)
+room-refusal-spec = tie.close (tie.spec returns returns-2 returns-3 mul-if4 returns-4 returns-5 returns-6)
