@@ -1,5 +1,6 @@
 -- Every answer fits its cells: of the cage check (`check-fits`), building (`build-fits`), the count question (`counts-fit`), refining
--- (`refine-fits`), the corner question (`corners-fit`), reading (`read-fits`), writing (`write-fits`) and writing STL (`stl-fits`). Assumes nothing.
+-- (`refine-fits`), the corner question (`corners-fit`), reading (`read-fits`), writing (`write-fits`), the moves
+-- (`move-fits`) and writing STL (`stl-fits`). Assumes nothing.
 use Prim.Native.Nat.{ℕ, suc, _≤_, _<_}
 use mathlib.Core.Path.{_≡_, refl}
 use mathlib.Core.Bool.{Bool, true, false, cond}
@@ -19,27 +20,33 @@ use Rattle.halfedges.specs.declared.table.Levels.{Levels}
 use Rattle.halfedges.specs.declared.table.Counted.{Counted}
 use Rattle.halfedges.specs.declared.corners.Corners.{Corners}
 use Rattle.halfedges.specs.Cage.{most-halfedges, most-vertices, most-depth, border, above, E, B}
-use Rattle.halfedges.specs.Refusals.{Verdict, DONE, SHAPE, LIMIT, VERTEX, UNUSED, FAN, POINT, SHORT, FIELD, EXTRA, DOUBLED, told, whenDone, first, Said, said}
+use Rattle.halfedges.specs.Refusals.{Verdict, DONE, SHAPE, LIMIT, VERTEX, UNUSED, FAN, POINT, TWIN, SHORT, FIELD, EXTRA, DOUBLED, NOT-OLD, told, whenDone, short, first, Said, said}
 use Rattle.halfedges.specs.Internal.Counts.{AtMost}
 use Rattle.halfedges.specs.Counts.{countsAt, Hs, Es, Vs, seven, levels, noLevels, countShape, aboveLimit, countQuestion, counted}
 use Rattle.halfedges.specs.Corners.{cornerShape, cornerQuestion, cornered}
-use Rattle.halfedges.proofs.Checks.{first-zero, done-passes}
+use Rattle.halfedges.proofs.Checks.{first-zero, done-both, done-passes}
 use Rattle.halfedges.proofs.Growth.{levels-at-most}
 use Rattle.halfedges.proofs.Questions.{limits-kept, count-shape, count-limit, count-done, within, corner-shape, corner-done}
 use Rattle.tables.specs.Tables.{Tables, countsOf}
 use Rattle.tables.specs.Check.{returned}
 use Rattle.points.specs.declared.weights.Weight.{Weight}
+use Rattle.points.specs.declared.weights.Weight.the-variants.{Short, Paper}
+use Rattle.points.specs.Weights.{weightNumber}
 use Rattle.points.specs.Operations.{vertices, cageChecks, creasedChecks, refineChecks, checkCreased, refineVerdict, refineCage}
 use Rattle.triangles.specs.Plain.{twinTable}
 use Rattle.triangles.proofs.Opposite.{twins-long}
 use Rattle.building.specs.Building.{buildChecks, buildVerdict, buildCage}
 use Rattle.building.proofs.Outcome.{limits}
-use Rattle.cagefile.specs.Fields.{Head, opening, heads, file}
-use Rattle.reading.specs.Reading.{past, fieldChecks, fieldsChecks, HIn, VIn, openingChecks, readVerdict, readFile}
-use Rattle.writing.specs.Writing.{writeVerdict, written, writeFile}
-use Rattle.reading.proofs.Verdict.{opening-kept, read-sound}
-use Rattle.cagefile.proofs.Fits.{file-length}
-use Rattle.writing.proofs.Accepted.{write-fits as write-kept}
+use Rattle.cagefile.specs.declared.fields.Form.{Form}
+use Rattle.cagefile.specs.declared.fields.Form.the-variants.{One, Two}
+use Rattle.cagefile.specs.Fields.{Cage, number, Head, opening, tableHeads, laterHeads, heads, file}
+use Rattle.cagefile.proofs.Fits.{Fits, Numbered, edges-at-most, file-length}
+use Rattle.reading.specs.Reading.{HIn, VIn, formOf, edgesFor, twinsIn, headsIn, weightIn, cageIn, past, fieldChecks, fieldsChecks, Asked, nothing, openingAsked, twinsAsked, weightAsked, laterAsked, frontToBack, fileChecks, both, shortRoom, readVerdict, readFile}
+use Rattle.reading.proofs.Verdict.{opening-kept, read-sound, edges-few, few-creases}
+use Rattle.reading.proofs.Outcomes.{valuesIn}
+use Rattle.writing.specs.Writing.{writeChecks, writeVerdict, written, writeFile}
+use Rattle.writing.proofs.Accepted.{accepted-fits, creased-kept, write-fits as write-kept}
+use Rattle.moves.specs.Moves.{cageMoves, moveVerdict, move}
 use Rattle.stl.specs.File.{stlFile}
 use Rattle.stl.specs.Writing.{stlVerdict, writeStl}
 use Rattle.stl.proofs.FacetLaws.{file-length as stl-length}
@@ -232,43 +239,129 @@ fields-small f at [] l = first-small _ (given-small _ (EXTRA at) (omega arith, o
 fields-small f at (h ∷ hs) l =
     joined-small (fieldChecks f at h) _ (field-small f at h (omega (arith, starts-before-end (past at h) hs))) (λ _. fields-small f (past at h) hs l)
 
-module _ (f : List ℕ) (x : Tables) (xp : List ℤ) where
-  ends : first (openingChecks f) ≡ DONE → endOf (past 0 opening) (heads (HIn f) (VIn f)) < 4294967296
-  unfolding heads
-  ends e = let k = opening-kept f e in omega (arith, k .1, k .2)
+-- questions whose answers fit, wherever they are asked
+abbrev AskedSmall : List Asked → Type 0
+AskedSmall [] = Unit {0}
+AskedSmall (q ∷ qs) = ((at : ℕ) → at < 4294967296 → Small (first (q at))) × AskedSmall qs
 
-  opening-small : Small (first (openingChecks f))
-  unfolding openingChecks
-  opening-small = first-small _ (given-small _ (FIELD 0) (omega arith, omega arith), (given-small _ SHAPE (omega arith, omega arith), (given-small _ LIMIT (omega arith, omega arith), tt)))
+front-small : (f : List ℕ) (at : ℕ) (qs : List Asked) (hs : List Head) → AskedSmall qs → endOf at hs < 4294967296 → Small (first (frontToBack f at qs hs))
+unfolding frontToBack
+front-small f at [] hs s l = fields-small f at hs l
+front-small f at (q ∷ qs) [] s l = fields-small f at [] l
+front-small f at (q ∷ qs) (h ∷ hs) s l =
+    let before : at < 4294967296 = omega (arith, starts-before-end (past at h) hs) in
+    joined-small (fieldChecks f at h) _ (field-small f at h before) (λ _. joined-small (q at) _ (s .0 at before) (λ _. front-small f (past at h) qs hs (s .1) l))
 
-  read-small : Small (readVerdict f x xp)
-  unfolding readVerdict
-  read-small =
+module _ (f : List ℕ) where
+  nothing-small : (at : ℕ) → at < 4294967296 → Small (first (nothing at))
+  unfolding first
+  nothing-small at l = (omega arith, omega arith)
+
+  later-small : (form : Form) → HIn f ≤ most-halfedges → AskedSmall (laterAsked form f)
+  unfolding twinsAsked weightAsked
+  later-small One few = tt
+  later-small Two few = (
+    nothing-small,
+    (
+      nothing-small,
+      (
+        (λ at l. first-small _ (givenAt-small _ _ TWIN (λ h m. (omega arith, omega arith)), tt)),
+        (nothing-small, (nothing-small, ((λ at l. first-small _ (given-small _ (FIELD at) (omega arith, omega arith), tt)), tt))),
+      ),
+    ),
+  )
+
+  -- of a file whose H and V are within the limits
+  ends : (form : Form) → HIn f ≤ most-halfedges → VIn f ≤ most-vertices → endOf (past 0 opening) (heads form (HIn f) (edgesFor form (twinsIn f)) (VIn f)) < 4294967296
+  unfolding tableHeads laterHeads
+  ends One few less = omega arith
+  ends Two few less = omega (arith, edges-few f)
+
+  opening-small : (forms : List Form) → Small (first (openingAsked forms f 0))
+  unfolding openingAsked
+  opening-small forms = first-small _ (given-small _ (FIELD 0) (omega arith, omega arith), (given-small _ SHAPE (omega arith, omega arith), (given-small _ LIMIT (omega arith, omega arith), tt)))
+
+  file-small : (forms : List Form) → Small (first (fileChecks forms f))
+  unfolding fileChecks frontToBack headsIn
+  file-small forms =
       joined-small (fieldChecks f 0 opening) _ (field-small f 0 opening (omega arith))
-      (λ _. joined-small (openingChecks f) _ opening-small
-      (λ e. joined-small (fieldsChecks f (past 0 opening) (heads (HIn f) (VIn f))) _ (fields-small f (past 0 opening) _ (ends e))
-      (λ _. rooms-small _ _ x xp)))
+      (λ _. joined-small (openingAsked forms f 0) _ (opening-small forms)
+      (λ e. let k = opening-kept forms f 0 e in front-small f (past 0 opening) _ _ (later-small (formOf f) (k .1)) (ends (formOf f) (k .1) (k .2))))
 
-  read-done : readVerdict f x xp .number ≡ 0 → Fitting (HIn f ∷ VIn f ∷ [])
+form-small : (form : Form) → number form < 4294967296
+form-small One = omega arith
+form-small Two = omega arith
+
+weight-small : (w : Weight) → weightNumber w < 4294967296
+weight-small Short = omega arith
+weight-small Paper = omega arith
+
+module _ (f : List ℕ) (x : Tables) (xp : List ℤ) (xc : List ℕ) where
+  read-small : Small (readVerdict f x xp xc)
+  unfolding readVerdict shortRoom
+  read-small = joined-small (fileChecks both f) _ (file-small f both) (λ _. rooms-small _ _ _ x xp xc)
+
+  read-done : readVerdict f x xp xc .number ≡ 0 → Fitting (valuesIn f)
   unfolding readVerdict
-  read-done z = let s = read-sound f x xp (first-zero _ z) in (omega (arith, s .few-halfedges), (omega (arith, s .few-vertices), tt))
+  read-done z =
+      let s = read-sound f x xp xc (first-zero _ z) in
+      (form-small (formOf f), (omega (arith, s .few-halfedges), (omega (arith, s .few-vertices), (omega (arith, s .few-halfedges, few-creases f), (weight-small (weightIn f), tt)))))
 
-  pub read-fits : Fitting (cells (readFile f x xp .answer))
+  pub read-fits : Fitting (cells (readFile f x xp xc .answer))
   unfolding readFile said
-  read-fits = (read-small .0, (read-small .1, fitting-when (readVerdict f x xp) _ _ read-done (omega arith, (omega arith, tt))))
+  read-fits = (read-small .0, (read-small .1, fitting-when (readVerdict f x xp xc) _ _ read-done zeros-fit))
 
-module _ (c : Tables) (points : List ℤ) (lent : List ℕ) where
-  write-small : Small (writeVerdict c points lent)
+-- a file of a cage that the checks accept
+file-fits : (form : Form) (w : Cage) → Fits (w .connectivity) (w .points) → Numbered form w → length (file form w) < 4294967296
+file-fits One w fits n = omega (arith, file-length w (fits .shaped) One, fits .few-halfedges, fits .few-vertices)
+file-fits Two w fits n = omega (arith, file-length w (fits .shaped) Two, fits .few-halfedges, fits .few-vertices, edges-at-most (w .connectivity .twin), n)
+
+-- what writing answers, where its verdict fits and, done, its bytes are not too many
+written-fits : (v : Verdict) (bytes lent : List ℕ) → Small v → (v .number ≡ 0 → length bytes < 4294967296) → Fitting (lengthCells (written v bytes lent .answer))
+unfolding written said
+written-fits v bytes lent s f = (s .0, (s .1, (by-test (eqb (v .number) 0) (λ e. rw e (f (eqb-true _ 0 e))) (λ e. rw e (omega arith)), tt)))
+
+room-small : (bytes lent : ℕ) → Small (first (short 5 bytes lent ∷ []))
+room-small bytes lent = first-small _ (short-small 5 bytes lent (omega arith), tt)
+
+module _ (form : Form) (w : Cage) (lent : List ℕ) where
+  checks-fit : (form : Form) → Small (first (writeChecks form w))
+  unfolding writeChecks
+  checks-fit One = cage-small (w .connectivity) (w .points) 0
+  checks-fit Two = creased-small (w .connectivity) (w .creases) (w .points) 0
+
+  write-done : writeVerdict form w lent .number ≡ 0 → length (file form w) < 4294967296
   unfolding writeVerdict
-  write-small = joined-small (cageChecks c points 0) _ (cage-small c points 0) (λ _. first-small _ (short-small 5 _ _ (omega arith), tt))
+  write-done z = let k = write-kept form w lent (first-zero _ z) in file-fits form w (k .0) (k .1)
 
-  write-done : writeVerdict c points lent .number ≡ 0 → length (file c points) < 4294967296
-  unfolding writeVerdict
-  write-done z = let k = write-kept c points lent (first-zero _ z) .0 in omega (arith, file-length c points (k .shaped), k .few-halfedges, k .few-vertices)
+  pub write-fits : Fitting (lengthCells (writeFile form w lent .answer))
+  unfolding writeFile writeVerdict
+  write-fits = written-fits _ _ lent (joined-small (writeChecks form w) _ (checks-fit form) (λ _. room-small _ _)) write-done
 
-  pub write-fits : Fitting (lengthCells (writeFile c points lent .answer))
-  unfolding writeFile written said
-  write-fits = (write-small .0, (write-small .1, (by-test (eqb (writeVerdict c points lent .number) 0) (λ e. rw e (write-done (eqb-true _ 0 e))) (λ e. rw e (omega arith)), tt)))
+module _ (from to : Form) (f lent : List ℕ) where
+  abbrev moved : Cage
+  moved = cageIn f
+
+  cage-moves-small : Small (first (cageMoves to moved lent))
+  unfolding cageMoves
+  cage-moves-small =
+      joined-small (creasedChecks (moved .connectivity) (moved .creases) (moved .points) 0) _ (creased-small (moved .connectivity) (moved .creases) (moved .points) 0)
+      (λ _. first-small _ (given-small _ NOT-OLD (omega arith, omega arith), (short-small 5 _ _ (omega arith), tt)))
+
+  numbered : (form : Form) → length (moved .creases) ≡ E (moved .connectivity .twin) → Numbered form moved
+  numbered One e = tt
+  numbered Two e = e
+
+  move-done : moveVerdict from to f lent .number ≡ 0 → length (file to moved) < 4294967296
+  unfolding moveVerdict cageMoves
+  move-done z =
+      let checks = creasedChecks (moved .connectivity) (moved .creases) (moved .points) 0 in
+      let kept = creased-kept (moved .connectivity) (moved .creases) (moved .points) (done-both checks _ (done-both (fileChecks (from ∷ []) f) _ (first-zero _ z) .1) .0) in
+      file-fits to moved (accepted-fits (moved .connectivity) (moved .points) (kept .0)) (numbered to (kept .1))
+
+  pub move-fits : Fitting (lengthCells (move from to f lent .answer))
+  unfolding move moveVerdict
+  move-fits = written-fits _ _ lent (joined-small (fileChecks (from ∷ []) f) _ (file-small f (from ∷ [])) (λ _. cage-moves-small)) move-done
 
 module _ (vert : List ℕ) (points : List ℤ) (lent : List ℕ) where
   stl-done : stlVerdict vert points lent .number ≡ 0 → length (stlFile vert points) < 4294967296

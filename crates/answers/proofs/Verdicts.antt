@@ -1,5 +1,5 @@
 -- The verdicts of checks that several operations run fit their cells: `short-small`, of room; of 1 to 8 `cage-small`, with creases
--- `creased-small`, and with 14 `refine-checks-small`; `rooms-small` of four tables' room, and `lent-small` of five. Assumes nothing.
+-- `creased-small`, and with 14 `refine-checks-small`; `rooms-small` of five tables' room, in refining `lent-small`. Assumes nothing.
 use Prim.Native.Nat.{ℕ, _*_, _≤_, _<_}
 use mathlib.Core.Path.{refl}
 use mathlib.Core.List.{List, [], _∷_, _++_}
@@ -90,13 +90,12 @@ tables-small : (needed : ℕ) (x : Tables) → Small (first (shortTables needed 
 unfolding shortTables
 tables-small needed x = first-small _ (short-small 1 _ _ (omega arith), (short-small 2 _ _ (omega arith), (short-small 3 _ _ (omega arith), tt)))
 
--- and the points'
-pub rooms-small : (needed coordinates : ℕ) (x : Tables) (xp : List ℤ) → Small (first (shortTables needed x ++ (short 4 coordinates (length xp) ∷ [])))
-rooms-small needed coordinates x xp = joined-small (shortTables needed x) _ (tables-small needed x) (λ _. first-small _ (short-small 4 _ _ (omega arith), tt))
+-- and that of points and creases
+pub rooms-small : (needed coordinates numbers : ℕ) (x : Tables) (xp : List ℤ) (xc : List ℕ) → Small (first (shortTables needed x ++ (short 4 coordinates (length xp) ∷ short 7 numbers (length xc) ∷ [])))
+rooms-small needed coordinates numbers x xp xc =
+    joined-small (shortTables needed x) _ (tables-small needed x)
+    (λ _. first-small _ (short-small 4 coordinates _ (omega arith), (short-small 7 numbers _ (omega arith), tt)))
 
--- and the creases'
 pub lent-small : (t : HalfedgeTable) (depth : ℕ) (x : Tables) (xp : List ℤ) (xc : List ℕ) → Small (first (shortLent t depth x xp xc))
 unfolding shortLent
-lent-small t depth x xp xc =
-    joined-small (shortTables (roomH t depth) x) _ (tables-small (roomH t depth) x)
-    (λ _. first-small _ (short-small 4 (3 * roomV t depth) _ (omega arith), (short-small 7 (roomE t depth) _ (omega arith), tt)))
+lent-small t depth x xp xc = rooms-small (roomH t depth) (3 * roomV t depth) (roomE t depth) x xp xc

@@ -48,15 +48,23 @@ pub fn of_corners(corners: Corners) -> [u32; 5]
     [number, place, numbers[0], numbers[1], numbers[2]]
 }
 
-// Number, place, H and V.
-pub fn of_reading(read: Reading) -> [u32; 4]
+// Number, place, form, H, V, E and weight.
+pub fn of_reading(read: Reading) -> [u32; 7]
     requires { ⌜ Fitting (cells (reported read)) ⌝ }
     ensures { λ r. ⌜ r ≡ cells (reported read) ⌝ }
 {
     let told = read.answer;
     let number = told.number() as u32;
     let place = told.place() as u32;
-    [number, place, read.halfedges as u32, read.vertices as u32]
+    [
+        number,
+        place,
+        read.form,
+        read.halfedges as u32,
+        read.vertices as u32,
+        read.edges as u32,
+        read.weight,
+    ]
 }
 
 // Number, place and the file's length.

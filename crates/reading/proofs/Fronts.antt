@@ -12,6 +12,7 @@ use lib.Seq.{take-at}
 use borrow.Author.Tests.{le-ltb}
 use Rattle.laws.specs.Below.{tabulate}
 use Rattle.laws.specs.Parts.{inFront}
+use Rattle.laws.proofs.Parts.{length-inFront}
 use Rattle.laws.proofs.Tabulate.{length-tabulate}
 use Rattle.halfedges.specs.Cage.{E, most-halfedges}
 use Rattle.halfedges.specs.Refusals.{DONE, told, given, short, first, said}
@@ -25,16 +26,8 @@ use Rattle.reading.specs.declared.Reading.{Reading}
 use Rattle.reading.specs.Reading.{HIn, VIn, EIn, edgesFor, formOf, tablePayload, creasesFor, cageIn, twinsIn, vertsIn, edgesIn, creasesRead, pointsIn, fileChecks, both, shortRoom, readVerdict, readFile, reported}
 use Rattle.reading.specs.Internal.Sound.{Sound}
 use Rattle.reading.specs.Internal.Fronts.{Ample, Fronts}
-use Rattle.reading.proofs.Verdict.{known-both, checks-sound, edges-few}
+use Rattle.reading.proofs.Verdict.{known-both, checks-sound, edges-few, few-creases}
 use Rattle.reading.proofs.Outcomes.{valuesIn, allRead, Left, read-done, twins-length, verts-length, edges-length, creases-length, points-length}
-
--- at most H creases
-few-creases : (f : List ℕ) → EIn f ≤ HIn f
-few-creases f = by (formOf f)
-  where
-    by : (form : Form) → edgesFor form (twinsIn f) ≤ HIn f
-    by One = omega arith
-    by Two = edges-few f
 
 module _ (f : List ℕ) (lent : Tables) (lentPoints : List ℤ) (lentCreases : List ℕ) (ample : Ample lent lentPoints lentCreases) where
   room-passes : Sound f → first (shortRoom f lent lentPoints lentCreases) ≡ DONE
@@ -70,8 +63,17 @@ module _ (f : List ℕ) (lent : Tables) (lentPoints : List ℤ) (lentCreases : L
         let H : r .halfedges ≡ HIn f = ap (λ vs. getD vs 1 0) values in
         let v : r .vertices ≡ VIn f = ap (λ vs. getD vs 2 0) values in
         let e : r .edges ≡ EIn f = ap (λ vs. getD vs 3 0) values in
+        let s = checks-sound f both (known-both f) (sym ample-told ∙ zero-done (r .answer) z) in
         record {
-          sound = checks-sound f both (known-both f) (sym ample-told ∙ zero-done (r .answer) z);
+          sound = s;
+          ample =
+              record {
+                twin = rw (left .1, all) (length-inFront (twinsIn f) _ (omega (arith, twins-length f, s .few-halfedges, ample .twin)) ∙ ample .twin);
+                vert = rw (left .1, all) (length-inFront (vertsIn f) _ (omega (arith, verts-length f, s .few-halfedges, ample .vert)) ∙ ample .vert);
+                edge = rw (left .1, all) (length-inFront (edgesIn f) _ (omega (arith, edges-length f, s .few-halfedges, ample .edge)) ∙ ample .edge);
+                coordinates = rw (left .2, all) (length-inFront (pointsIn f) _ (omega (arith, points-length f, s .few-vertices, ample .coordinates)) ∙ ample .coordinates);
+                creases = rw (left .3, all) (length-inFront (creasesRead f) _ (omega (arith, creases-length f, few-creases f, s .few-halfedges, ample .creases)) ∙ ample .creases);
+              };
           halfedges = H;
           vertices = v;
           edges = e;

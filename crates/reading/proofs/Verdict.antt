@@ -125,6 +125,14 @@ longest Two = 46111
 pub edges-few : (f : List ℕ) → E (twinsIn f) ≤ HIn f
 edges-few f = omega (arith, edges-at-most (twinsIn f), twins-length f)
 
+-- at most H creases
+pub few-creases : (f : List ℕ) → EIn f ≤ HIn f
+few-creases f = by (formOf f)
+  where
+    by : (form : Form) → edgesFor form (twinsIn f) ≤ HIn f
+    by One = omega arith
+    by Two = edges-few f
+
 module _ (f : List ℕ) (s : Sound f) where
   pub sound-length : length f ≡ 24 + 6 * HIn f + 12 * VIn f + extra (formOf f) (EIn f)
   unfolding payloadAt headsIn tableHeads laterHeads

@@ -9,13 +9,16 @@ ghost use Rattle.points.specs.Weights.{weightOf};
 ghost use Rattle.points.specs.Operations.{checkCreased, refineCage};
 ghost use Rattle.building.specs.Building.{buildCage};
 ghost use Rattle.reading.specs.Reading.{readFile};
-ghost use Rattle.writing.specs.Writing.{writeFile};
+ghost use Rattle.cagefile.specs.declared.fields.Form.the-variants.{One, Two};
+ghost use Rattle.writing.specs.Writing.{plain, writeFile};
+ghost use Rattle.moves.specs.Moves.{move};
 ghost use Rattle.stl.specs.Writing.{writeStl};
 ghost use Rattle.answers.specs.Cells.{cells as Cells·cells, lengthCells, numberCell, stlCells, levelCells};
 use answers;
 use building;
 use halfedges::corners;
 use halfedges::table::HalfedgeTable;
+use moves;
 use points::weights::Weight;
 use reading;
 use refining;
@@ -142,7 +145,7 @@ pub extern "C" fn ryebadger_corners(vert: &[u32], triangle: usize, answer: &mut 
     *answer = answers::of_corners(corners);
 }
 
-// Reading a cage file into four lent tables.
+// Reading a cage file of either form into five lent tables.
 #[no_mangle]
 pub extern "C" fn ryebadger_read(
     file: &[u8],
@@ -150,20 +153,21 @@ pub extern "C" fn ryebadger_read(
     vert: &mut [u32],
     edge: &mut [u32],
     points: &mut [i32],
-    answer: &mut [u32; 4],
+    creases: &mut [u8],
+    answer: &mut [u32; 7],
 )
     ensures { λ _.
         let after = readFile (now (file .entry)) (tables (now (twin .entry)) (now (vert .entry)) (now (edge .entry)))
-        (now (points .entry)) in
+        (now (points .entry)) (now (creases .entry)) in
         ⌜ (now (answer .exit) ≡ Cells·cells (after .answer))
         × (tables (now (twin .exit)) (now (vert .exit)) (now (edge .exit)) ≡ after .lent)
-        × (now (points .exit) ≡ after .points) ⌝ }
+        × (now (points .exit) ≡ after .points) × (now (creases .exit) ≡ after .creases) ⌝ }
 {
-    let reading = reading::read(file, twin, vert, edge, points);
+    let reading = reading::read(file, twin, vert, edge, points, creases);
     *answer = answers::of_reading(reading);
 }
 
-// Writing a cage's file into a lent file.
+// Writing a cage's file of form 1 into a lent file.
 #[no_mangle]
 pub extern "C" fn ryebadger_write(
     twin: &[u32],
@@ -174,11 +178,57 @@ pub extern "C" fn ryebadger_write(
     answer: &mut [u32; 3],
 )
     ensures { λ _.
-        let after = writeFile (tables (now (twin .entry)) (now (vert .entry)) (now (edge .entry))) (now (points .entry))
-        (now (file .entry)) in
+        let c = tables (now (twin .entry)) (now (vert .entry)) (now (edge .entry)) in
+        let after = writeFile One (plain c (now (points .entry))) (now (file .entry)) in
         ⌜ (now (answer .exit) ≡ lengthCells (after .answer)) × (now (file .exit) ≡ after .file) ⌝ }
 {
     let writing = writing::write(twin, vert, edge, points, file);
+    *answer = answers::of_writing(writing);
+}
+
+// Of form 2, with creases and the weight whose number is given.
+#[no_mangle]
+pub extern "C" fn ryebadger_write_form_2(
+    twin: &[u32],
+    vert: &[u32],
+    edge: &[u32],
+    points: &[i32],
+    creases: &[u8],
+    weight: u32,
+    file: &mut [u8],
+    answer: &mut [u32; 3],
+)
+    ensures { λ _.
+        let c = tables (now (twin .entry)) (now (vert .entry)) (now (edge .entry)) in
+        let after = writeFile Two
+        (record { connectivity = c; points = now (points .entry); creases = now (creases .entry); weight = weightOf weight })
+        (now (file .entry)) in
+        ⌜ (now (answer .exit) ≡ lengthCells (after .answer)) × (now (file .exit) ≡ after .file) ⌝ }
+{
+    let chosen = Weight::numbered(weight);
+    let writing = writing::write_form_2(twin, vert, edge, points, creases, chosen, file);
+    *answer = answers::of_writing(writing);
+}
+
+// The move of a file of form 1 to form 2, into a lent file.
+#[no_mangle]
+pub extern "C" fn ryebadger_to_form_2(file: &[u8], lent: &mut [u8], answer: &mut [u32; 3])
+    ensures { λ _.
+        let after = move One Two (now (file .entry)) (now (lent .entry)) in
+        ⌜ (now (answer .exit) ≡ lengthCells (after .answer)) × (now (lent .exit) ≡ after .file) ⌝ }
+{
+    let writing = moves::to_form_2(file, lent);
+    *answer = answers::of_writing(writing);
+}
+
+// The move back.
+#[no_mangle]
+pub extern "C" fn ryebadger_to_form_1(file: &[u8], lent: &mut [u8], answer: &mut [u32; 3])
+    ensures { λ _.
+        let after = move Two One (now (file .entry)) (now (lent .entry)) in
+        ⌜ (now (answer .exit) ≡ lengthCells (after .answer)) × (now (lent .exit) ≡ after .file) ⌝ }
+{
+    let writing = moves::to_form_1(file, lent);
     *answer = answers::of_writing(writing);
 }
 

@@ -23,6 +23,7 @@ pub record Ample (lent : Tables) (lentPoints : List ℤ) (lentCreases : List ℕ
 -- what was read of a file that reads: its numbers, and its cage at the fronts of tables
 pub record Fronts (f : List ℕ) (r : Reading) (now : Tables) (nowPoints : List ℤ) (held nowCreases : List ℕ) : Type 0 where
   pub sound : Sound f
+  pub ample : Ample now nowPoints nowCreases
   pub halfedges : r .halfedges ≡ HIn f
   pub vertices : r .vertices ≡ VIn f
   pub edges : r .edges ≡ EIn f

@@ -1,50 +1,75 @@
+-- `creased_refusal` goes through checks 1 to 8 and 15, and then the room.
 use borrow.Author.Needs.{needs}
+use mathlib.Core.Path.{_≡_, ap, _∙_}
+use native.Mathlib.Omega.{arith}
+use Rattle.halfedges.specs.Refusals.{told, first}
+use Rattle.tables.specs.Tables.{tables}
+use Rattle.cage.proofs.CageChecks.{short-checks}
+use Rattle.cagefile.specs.declared.fields.Form.the-variants.{Two}
+use Rattle.cagefile.specs.Fields.{Cage}
+use Rattle.cagefile.proofs.Fits.{Fits, Numbered, edges-at-most}
+use Rattle.writing.specs.Writing.{writeChecks}
+use Rattle.writing.proofs.WriteChecks.{write-refused, write-checked, write-short, write-roomy}
 use Rattle.writing.proofs.creased_refusal.Statement.{statement}
 use Rattle.writing.proofs.creased_refusal.Tie as tie
-use Rattle.writing.proofs.creased_refusal.Reads as reads
-use Rattle.writing.proofs.creased_refusal.Lts as lts
-use Rattle.cage.proofs.check_for_refining.Reads as check-for-refining-reads
-use Rattle.halfedges.proofs.answer.Answer.number.Reads as number-reads
 
--- src/lib.rt:247:9
+-- the cage, and what the answer of the checks tells
+module _ (n : tie.After-number) where
+  abbrev start : tie.Start
+  start = n .before .before .before .before .before .before .before
+
+  abbrev cage : Cage
+  cage =
+      record {
+        connectivity = tables (start .args .twin .now) (start .args .vert .now) (start .args .edge .now);
+        points = start .args .points .now;
+        creases = start .args .creases .now;
+        weight = start .args .weight;
+      }
+
+  checks : told (n .before .check-for-refining .result) ≡ first (writeChecks Two cage)
+  unfolding writeChecks
+  checks = n .before .check-for-refining .ensures ∙ ap first (short-checks (cage .connectivity) (cage .creases) (cage .points) 0)
+
+-- past the checks
+fits : (c : tie.Else1) → Fits (cage (c .before) .connectivity) (cage (c .before) .points) × Numbered Two (cage (c .before))
+fits c =
+    let n = c .before in
+    write-checked Two (cage n) (start n .args .file .now) (n .before .check-for-refining .result) (n .number .ensures) (checks n) (c .if1 .left)
+
 check-for-refining-requires : tie.Need-check-for-refining-requires
 check-for-refining-requires c κs = search needs
 
--- src/lib.rt:248:8
 number-requires : tie.Need-number-requires
 number-requires c κs = search needs
 
--- src/lib.rt:249:9
 returns : tie.Need-returns
-returns c = ?
+returns c = write-refused Two _ _ (c .before .before .check-for-refining .result) (c .before .number .ensures) (checks (c .before)) (c .if1 .taken)
 
--- src/lib.rt:251:26
 mul-if2 : tie.Need-mul-if2
 mul-if2 c = search needs
 
--- src/lib.rt:251:21
 add-if2 : tie.Need-add-if2
 add-if2 c = search needs
 
--- src/lib.rt:251:43
 mul-if2-2 : tie.Need-mul-if2-2
 mul-if2-2 c = search needs
 
--- src/lib.rt:251:21
 add-if2-2 : tie.Need-add-if2-2
-add-if2-2 c = ?
+add-if2-2 c = omega (arith, fits c)
 
--- src/lib.rt:251:21
 add-if2-3 : tie.Need-add-if2-3
-add-if2-3 c = ?
+add-if2-3 c = omega (arith, fits c, edges-at-most (start (c .before) .args .twin .now))
 
--- src/lib.rt:252:9
 returns-2 : tie.Need-returns-2
-returns-2 c = ?
+returns-2 c =
+    let n = c .before .before in
+    write-short Two _ _ (n .before .check-for-refining .result) (n .number .ensures) (checks n) (c .before .if1 .left) (omega arith)
 
--- src/lib.rt:232:1
 returns-3 : tie.Need-returns-3
-returns-3 c = ?
+returns-3 c =
+    let n = c .before .before in
+    write-roomy Two _ _ (n .before .check-for-refining .result) (n .number .ensures) (checks n) (c .before .if1 .left) (omega arith)
 
 pub creased-refusal-spec : {M : Type 1} → statement M
 creased-refusal-spec =

@@ -1,46 +1,52 @@
+-- `plain_refusal` goes through checks 1 to 8, and then the room.
 use borrow.Author.Needs.{needs}
+use native.Mathlib.Omega.{arith}
+use Rattle.tables.specs.Tables.{tables}
+use Rattle.cagefile.specs.declared.fields.Form.the-variants.{One}
+use Rattle.writing.specs.Writing.{plain, writeChecks}
+use Rattle.writing.proofs.WriteChecks.{write-refused, write-checked, write-short, write-roomy}
 use Rattle.writing.proofs.plain_refusal.Statement.{statement}
 use Rattle.writing.proofs.plain_refusal.Tie as tie
-use Rattle.writing.proofs.plain_refusal.Reads as reads
-use Rattle.writing.proofs.plain_refusal.Lts as lts
-use Rattle.cage.proofs.verdict.Reads as verdict-reads
-use Rattle.halfedges.proofs.answer.Answer.number.Reads as number-reads
 
--- src/lib.rt:221:9
 verdict-requires : tie.Need-verdict-requires
 verdict-requires c κs = search needs
 
--- src/lib.rt:222:8
 number-requires : tie.Need-number-requires
 number-requires c κs = search needs
 
--- src/lib.rt:223:9
 returns : tie.Need-returns
-returns c = ?
+unfolding writeChecks
+returns c = write-refused One _ _ (c .before .before .verdict .result) (c .before .number .ensures) (c .before .before .verdict .ensures) (c .if1 .taken)
 
--- src/lib.rt:225:26
 mul-if2 : tie.Need-mul-if2
 mul-if2 c = search needs
 
--- src/lib.rt:225:21
 add-if2 : tie.Need-add-if2
 add-if2 c = search needs
 
--- src/lib.rt:225:43
 mul-if2-2 : tie.Need-mul-if2-2
 mul-if2-2 c = search needs
 
--- src/lib.rt:225:21
 add-if2-2 : tie.Need-add-if2-2
-add-if2-2 c = ?
+unfolding writeChecks
+add-if2-2 c =
+    let n = c .before in
+    let s = n .before .before .before .before .before .before .args in
+    let cage = plain (tables (s .twin .now) (s .vert .now) (s .edge .now)) (s .points .now) in
+    let fits = write-checked One cage (s .file .now) (n .before .verdict .result) (n .number .ensures) (n .before .verdict .ensures) (c .if1 .left) .0 in
+    omega (arith, fits .few-halfedges, fits .few-vertices)
 
--- src/lib.rt:226:9
 returns-2 : tie.Need-returns-2
-returns-2 c = ?
+unfolding writeChecks
+returns-2 c =
+    let n = c .before .before in
+    write-short One _ _ (n .before .verdict .result) (n .number .ensures) (n .before .verdict .ensures) (c .before .if1 .left) (omega arith)
 
--- src/lib.rt:216:1
 returns-3 : tie.Need-returns-3
-returns-3 c = ?
+unfolding writeChecks
+returns-3 c =
+    let n = c .before .before in
+    write-roomy One _ _ (n .before .verdict .result) (n .number .ensures) (n .before .verdict .ensures) (c .before .if1 .left) (omega arith)
 
 pub plain-refusal-spec : {M : Type 1} → statement M
 plain-refusal-spec =

@@ -1,39 +1,42 @@
+-- `write` answers its checks, and else writes the fields.
 use borrow.Author.Needs.{needs}
+use Rattle.writing.specs.Writing.{writeFile}
+use Rattle.writing.proofs.Outcomes.{told-done, refused-left, done-left}
 use Rattle.writing.proofs.write.Statement.{statement}
 use Rattle.writing.proofs.write.Tie as tie
-use Rattle.writing.proofs.write.Reads as reads
-use Rattle.writing.proofs.write.Lts as lts
-use Rattle.halfedges.proofs.answer.Answer.number.Reads as number-reads
-use Rattle.writing.proofs.plain_refusal.Reads as plain-refusal-reads
-use Rattle.writing.proofs.write_plain.Reads as write-plain-reads
 
--- src/lib.rt:264:9
 plain-refusal-requires : tie.Need-plain-refusal-requires
 plain-refusal-requires c κs = search needs
 
--- src/lib.rt:265:8
 number-requires : tie.Need-number-requires
 number-requires c κs = search needs
 
--- src/lib.rt:266:9
 same-length : tie.Need-same-length
 same-length c = search needs
 
--- src/lib.rt:266:9
 returns : tie.Need-returns
-returns c = ?
+unfolding writeFile
+returns c =
+    let n = c .before in
+    let r = n .before .plain-refusal in
+    refused-left (r .result) (r .ensures) (n .number .ensures) _ _ (c .if1 .taken)
 
--- src/lib.rt:268:9
 write-plain-requires : tie.Need-write-plain-requires
-write-plain-requires c κs = ?
+write-plain-requires c κs =
+    let i = c .before in
+    let r = i .before .before .plain-refusal in
+    told-done (r .result) (r .ensures) (i .before .number .ensures) (i .if1 .left)
 
--- src/lib.rt:258:1
 same-length-2 : tie.Need-same-length-2
 same-length-2 c = search needs
 
--- src/lib.rt:258:1
 returns-2 : tie.Need-returns-2
-returns-2 c = ?
+unfolding writeFile
+returns-2 c =
+    let w = c .before .before in
+    let i = w .before .before in
+    let r = i .before .before .plain-refusal in
+    done-left (r .result) (r .ensures) (i .before .number .ensures) _ _ (i .if1 .left) (w .write-plain .ensures .0) (w .write-plain .ensures .1)
 
 pub write-spec : {M : Type 1} → statement M
 write-spec =

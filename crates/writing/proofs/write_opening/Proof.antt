@@ -1,7 +1,7 @@
 -- The first field is its head and, over the part after it, the counts.
 use mathlib.Core.List.{[], _∷_, flatMap}
 use Rattle.cagefile.specs.Numbers.{u16}
-use Rattle.cagefile.specs.Fields.{opening}
+use Rattle.cagefile.specs.Fields.{number, opening}
 use borrow.Author.Needs.{needs}
 use mathlib.Core.Path.{refl}
 use native.Mathlib.Omega.{arith}
@@ -36,7 +36,7 @@ same-length c = search needs
 returns : tie.Need-returns
 returns c =
     let s = c .before .before .before .before .before .before .before .before .before .args in
-    (refl, field-written (s .file .now) _ _ (flatMap u16 (1 ∷ s .halfedges ∷ s .vertices ∷ [])) 0 opening (omega arith) (c .before .before .before .before .before .before .put-head .ensures) (c .before .before .put-counts .ensures))
+    (refl, field-written (s .file .now) _ _ (flatMap u16 (number (s .form) ∷ s .halfedges ∷ s .vertices ∷ [])) 0 opening (omega arith) (c .before .before .before .before .before .before .put-head .ensures) (c .before .before .put-counts .ensures))
 
 pub write-opening-spec : {M : Type 1} → statement M
 write-opening-spec =
