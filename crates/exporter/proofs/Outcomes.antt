@@ -16,16 +16,16 @@ use Rattle.halfedges.specs.Cage.{most-halfedges, most-vertices, F}
 use Rattle.halfedges.specs.Refusals.{told}
 use Rattle.tables.specs.declared.check.Checked.{Checked}
 use Rattle.tables.specs.Check.{returned, checked}
-use Rattle.reading.specs.Reading.{vertsIn, pointsIn}
+use Rattle.reading.specs.Reading.{cageIn}
 use Rattle.reading.proofs.Outcomes.{twins-length, verts-length, points-length}
 use Rattle.text.specs.declared.replies.Written.{Written}
 use Rattle.text.specs.Replies.{refused}
 use Rattle.text.specs.Internal.Put.{Replied}
 use Rattle.cagefile.proofs.Fits.{Fits}
 use Rattle.writing.proofs.Accepted.{accepted-fits}
-use Rattle.intake.specs.Intake.{cageIn, checkFile}
+use Rattle.intake.specs.Intake.{checkFile}
 use Rattle.intake.specs.Internal.Steps.{Taken}
-use Rattle.intake.proofs.Outcomes.{reply-refused, reply-answered, accepted-done, accepted-values, accepted-H, accepted-V}
+use Rattle.intake.proofs.Outcomes.{plain-accepted, reply-refused, reply-answered, accepts, accepted-values, accepted-H, accepted-V}
 use Rattle.stl.specs.File.{stlHead}
 use Rattle.stl.proofs.FacetLaws.{head-length}
 use Rattle.exporter.specs.declared.exporting.Opened.{Opened}
@@ -70,14 +70,15 @@ module _ (f : List ℕ) (c : Checked) (e : checked c ≡ checkFile f) where
   told-verdict = ap (λ s. s .verdict) e
 
   module _ (z : told (c .answer) .number ≡ 0) where
-    fits : Fits (cageIn f) (pointsIn f)
-    fits = accepted-fits (cageIn f) (pointsIn f) (accepted-done f c e z)
+    fits : Fits (cageIn f .connectivity) (cageIn f .points)
+    fits = accepted-fits (cageIn f .connectivity) (cageIn f .points) (plain-accepted f (accepts f c e z))
 
-    F-is : c .triangles ≡ F (length (vertsIn f))
-    unfolding returned
+    F-is : c .triangles ≡ F (length (cageIn f .connectivity .vert))
+    unfolding returned cageIn
     F-is = ap (λ s. getD (s .values) 2 0) (accepted-values f c e z) ∙ ap F (twins-length f ∙ sym (verts-length f))
 
   pub file-small : Small c
+  unfolding cageIn
   file-small =
       record {
         few-halfedges = λ z. omega (arith, accepted-H f c e z, twins-length f, fits z .few-halfedges);

@@ -5,15 +5,12 @@ use mathlib.Core.List.{List, [], _++_, append-nil}
 use native.Mathlib.Decide.{ℕ-discrete}
 use native.Mathlib.Omega.{arith}
 use borrow.Author.Tests.{eq-eqb, ne-eqb}
-use Rattle.halfedges.specs.Refusals.{said}
-use Rattle.halfedges.proofs.Checks.{first-zero}
-use Rattle.points.specs.Operations.{checkCage}
-use Rattle.reading.specs.Reading.{vertsIn, pointsIn}
+use Rattle.reading.specs.Reading.{cageIn}
 use Rattle.text.specs.Replies.{refused}
 use Rattle.cagefile.proofs.Fits.{Fits}
 use Rattle.writing.proofs.Accepted.{accepted-fits}
-use Rattle.intake.specs.Intake.{cageIn, checkFile}
-use Rattle.intake.proofs.Outcomes.{file-accepted, reply-refused, reply-answered}
+use Rattle.intake.specs.Intake.{checkFile}
+use Rattle.intake.proofs.Outcomes.{plain-accepted, reply-refused, reply-answered}
 use Rattle.stl.specs.File.{stlFile}
 use Rattle.stl.specs.Internal.Facets.{Drawn}
 use Rattle.stl.proofs.Verdict.{in-range}
@@ -21,12 +18,11 @@ use Rattle.exporter.specs.Exporting.{levelStl, exporting, cornersOut, pl
 
 module _ (f : List ℕ) where
   module _ (z : checkFile f .verdict .number ≡ 0) where
-    fits : Fits (cageIn f) (pointsIn f)
-    unfolding checkCage said
-    fits = accepted-fits (cageIn f) (pointsIn f) (first-zero _ (rw (file-accepted f z) at z))
+    fits : Fits (cageIn f .connectivity) (cageIn f .points)
+    fits = accepted-fits (cageIn f .connectivity) (cageIn f .points) (plain-accepted f z)
 
-    accepted-drawn : Drawn (vertsIn f) (pointsIn f)
-    accepted-drawn = record { placed = λ h l. omega (arith, fits .verts h l); ranged = in-range (pointsIn f) (fits .coordinates) }
+    accepted-drawn : Drawn (cageIn f .connectivity .vert) (cageIn f .points)
+    accepted-drawn = record { placed = λ h l. omega (arith, fits .verts h l); ranged = in-range (cageIn f .points) (fits .coordinates) }
 
   pub out-drawn : Drawn (cornersOut f) (placesOut f)
   unfolding cornersOut placesOut

@@ -9,7 +9,7 @@ use Rattle.laws.specs.Parts.{inFront}
 use Rattle.halfedges.specs.Cage.{F}
 use Rattle.halfedges.specs.Refusals.{whenDone}
 use Rattle.tables.specs.Tables.{Tables}
-use Rattle.reading.specs.Reading.{vertsIn, pointsIn}
+use Rattle.reading.specs.Reading.{cageIn}
 use Rattle.text.specs.Replies.{Reply, refused}
 use Rattle.intake.specs.Intake.{checkFile, fileReply}
 use Rattle.stl.specs.File.{facetAt, stlHead, stlFile}
@@ -25,16 +25,16 @@ exporting = fileReply levelStl
 
 -- VERT and points of the facets that are put out, none where the cage is refused
 unfoldable pub cornersOut : List ℕ → List ℕ
-cornersOut f = whenDone (checkFile f .verdict) (vertsIn f) []
+cornersOut f = whenDone (checkFile f .verdict) (cageIn f .connectivity .vert) []
 
 unfoldable pub placesOut : List ℕ → List ℤ
-placesOut f = whenDone (checkFile f .verdict) (pointsIn f) []
+placesOut f = whenDone (checkFile f .verdict) (cageIn f .points) []
 
 -- what is put out before them: the head of the STL, or the refusal's line
 unfoldable pub opening : List ℕ → List ℕ
 opening f =
     let verdict = checkFile f .verdict in
-    whenDone verdict (stlHead (F (length (vertsIn f)))) (refused verdict .text)
+    whenDone verdict (stlHead (F (length (cageIn f .connectivity .vert)))) (refused verdict .text)
 
 -- and then "a facet at a time": with the opening before them these are the reply's text (`parts-whole`)
 abbrev pub facetsOut : List ℕ → List ℕ

@@ -12,7 +12,7 @@ use text::streams;
 
 fn main() {
     // one byte more than the longest file that reads
-    let mut file = [0u8; 43033];
+    let mut file = [0u8; 46112];
     export_input(&mut file);
 }
 

@@ -10,9 +10,10 @@ use lib.IntN.{ℤ}
 use lib.ListN.{length, take}
 use lib.Seq.{take-all}
 use Rattle.tables.specs.Tables.{Tables}
+use Rattle.reading.specs.Reading.{both}
 use Rattle.filelaws.proofs.Prefix.{too-long, longer-alike}
 use Rattle.text.specs.Replies.{refused}
-use Rattle.intake.specs.Intake.{roomy, roomyPoints, checkFile, fileReply}
+use Rattle.intake.specs.Intake.{checkFile, fileReply}
 use Rattle.intake.specs.Internal.Buffer.{longest}
 use Rattle.intake.proofs.Outcomes.{file-unread, reply-refused}
 
@@ -20,8 +21,8 @@ module _ (answer : Tables → List ℤ → List ℕ) (f : List ℕ) (n : ℕ) (e
   -- of a file that goes on past n bytes these are too many already
   both-refused : n < length f → fileReply answer (take n f) ≡ fileReply answer f
   both-refused l =
-      let same = longer-alike f n enough roomy roomyPoints in
-      let long = too-long f (omega arith) roomy roomyPoints in
+      let same = longer-alike f n enough both in
+      let long = too-long both f (omega arith) in
       let whole = file-unread f long in
       let part = file-unread (take n f) (rw same long) in
       let alike : checkFile (take n f) .verdict ≡ checkFile f .verdict = rw (part, whole) same in

@@ -1,9 +1,9 @@
 -- What a file that was taken in is answered, by what reading answered. Assumes nothing.
 --     unread-checked, read-checked      the check of what was read
 --     file-held, file-checked           the tables hold a file that reads, and its check
---     file-unread, file-accepted        the check of a file that does not read, and of one that is accepted
+--     file-unread, file-accepted        the check of a file that does not read, and of one that is accepted (`plain-accepted`)
 --     reply-refused, reply-answered     the reply
---     accepted-done, accepted-values    the answer of the check to an accepted file, and its H and V (`accepted-H`, `accepted-V`)
+--     accepts, accepted-values          the answer of the check to an accepted file, and its H and V (`accepted-H`, `accepted-V`)
 --     file-taken                        where its cage stands
 use Prim.Native.Nat.{ℕ, _*_, _≤_}
 use mathlib.Core.Path.{_≡_, sym, ap, _∙_}
@@ -16,17 +16,19 @@ use lib.ListN.{length, getD, replicate, take}
 use borrow.Author.Tests.{eq-eqb, ne-eqb}
 use Rattle.halfedges.specs.Cage.{E, most-halfedges}
 use Rattle.halfedges.specs.Refusals.{Verdict, DONE, told, first, said}
+use Rattle.halfedges.proofs.Checks.{first-zero}
 use Rattle.halfedges.proofs.Told.{zero-done}
 use Rattle.tables.specs.declared.check.Checked.{Checked}
 use Rattle.tables.specs.Tables.{Tables}
 use Rattle.tables.specs.Check.{returned, checked}
-use Rattle.points.specs.Operations.{vertices, creasedChecks, checkCreased}
+use Rattle.points.specs.Operations.{vertices, cageChecks, creasedChecks, checkCreased}
 use Rattle.reading.specs.declared.Reading.{Reading}
 use Rattle.reading.specs.Reading.{HIn, VIn, twinsIn, cageIn, fileChecks, both, readFile, reported}
 use Rattle.reading.specs.Internal.Fronts.{Ample, Fronts}
 use Rattle.reading.proofs.Outcomes.{Left, twins-length, points-length}
 use Rattle.reading.proofs.Verdict.{edges-few}
 use Rattle.reading.proofs.Fronts.{ample-told, ample-fronts, creases-there}
+use Rattle.writing.proofs.Accepted.{creased-kept}
 use Rattle.text.specs.Replies.{answered, refused}
 use Rattle.intake.specs.Intake.{checkFile, fileReply}
 use Rattle.intake.specs.Internal.Steps.{Held, front, readChecked, Taken}
@@ -101,6 +103,11 @@ module _ (f : List ℕ) where
   unfolding checkFile
   file-accepted z = rw (eq-eqb (first (fileChecks both f) .number) 0 (reads z))
 
+  -- then the checks without creases accept it too
+  pub plain-accepted : checkFile f .verdict .number ≡ 0 → first (cageChecks (cageIn f .connectivity) (cageIn f .points) 0) ≡ DONE
+  unfolding checkCreased said
+  plain-accepted z = creased-kept (cageIn f .connectivity) (cageIn f .creases) (cageIn f .points) (first-zero _ (rw (file-accepted z) at z)) .0
+
   module _ (answer : Tables → List ℤ → List ℕ) where
     pub reply-refused : checkFile f .verdict .number ≢ 0 → refused (checkFile f .verdict) ≡ fileReply answer f
     unfolding fileReply
@@ -113,13 +120,13 @@ module _ (f : List ℕ) where
 -- ---- an accepted file
 
 module _ (f : List ℕ) (c : Checked) (e : checked c ≡ checkFile f) (z : told (c .answer) .number ≡ 0) where
-  accepts : checkFile f .verdict .number ≡ 0
+  pub accepts : checkFile f .verdict .number ≡ 0
   accepts = ap (λ s. s .verdict .number) (sym e) ∙ z
 
   accepted-cage : checked c ≡ checkCreased (cageIn f .connectivity) (cageIn f .creases) (cageIn f .points)
   accepted-cage = e ∙ file-accepted f accepts
 
-  pub accepted-done : first (creasedChecks (cageIn f .connectivity) (cageIn f .creases) (cageIn f .points) 0) ≡ DONE
+  accepted-done : first (creasedChecks (cageIn f .connectivity) (cageIn f .creases) (cageIn f .points) 0) ≡ DONE
   unfolding checkCreased said
   accepted-done = sym (ap (λ s. s .verdict) accepted-cage) ∙ zero-done (c .answer) z
 

@@ -21,13 +21,13 @@ use Rattle.tables.specs.Check.{returned, checked, tableChecks}
 use Rattle.points.specs.Operations.{vertices}
 use Rattle.invariance.proofs.Levels.{accepted}
 use Rattle.cage.proofs.CageChecks.{tables-accepted}
-use Rattle.reading.specs.Reading.{twinsIn, pointsIn}
+use Rattle.reading.specs.Reading.{cageIn}
 use Rattle.cagefile.proofs.Fits.{Fits}
 use Rattle.writing.proofs.Accepted.{accepted-fits}
 use Rattle.text.specs.Lines.{roomLine}
 use Rattle.text.specs.Replies.{answered, refused}
-use Rattle.intake.specs.Intake.{cageIn, checkFile}
-use Rattle.intake.proofs.Outcomes.{reply-refused, reply-answered, accepted-done, accepted-values}
+use Rattle.intake.specs.Intake.{checkFile}
+use Rattle.intake.proofs.Outcomes.{plain-accepted, reply-refused, reply-answered, accepts, accepted-values}
 use Rattle.lister.specs.Listing.{levelBorders, levelLines, cageLines, listing}
 use Rattle.lister.specs.Internal.Doubling.{doubled}
 use Rattle.lister.specs.Internal.Steps.{counts, Small, checkedListing}
@@ -49,40 +49,40 @@ module _ (f : List ℕ) (r : Checked) (e : checked r ≡ checkFile f) where
   told-verdict = ap (λ s. s .verdict) e
 
   module _ (z : told (r .answer) .number ≡ 0) where
-    counted : counts r ≡ countsOf (cageIn f) (vertices (pointsIn f))
+    counted : counts r ≡ countsOf (cageIn f .connectivity) (vertices (cageIn f .points))
     unfolding returned
     counted = let v = accepted-values f r e z in λ i. record { halfedges = getD (v i .values) 0 0; edges = getD (v i .values) 1 0; vertices = getD (v i .values) 3 0 }
 
-    bordered : r .borders ≡ B (twinsIn f)
+    bordered : r .borders ≡ B (cageIn f .connectivity .twin)
     unfolding returned
     bordered = ap (λ s. getD (s .values) 4 0) (accepted-values f r e z)
 
-    fits : Fits (cageIn f) (pointsIn f)
-    fits = accepted-fits (cageIn f) (pointsIn f) (accepted-done f r e z)
+    fits : Fits (cageIn f .connectivity) (cageIn f .points)
+    fits = accepted-fits (cageIn f .connectivity) (cageIn f .points) (plain-accepted f (accepts f r e z))
 
     few-counts : AtMost most-halfedges (counts r)
     unfolding E
     few-counts =
         rw counted
-        (record { halfedges = fits .few-halfedges; edges = omega (arith, fits .few-halfedges, count-at-most (length (twinsIn f)) (above (twinsIn f))); vertices = omega (arith, fits .few-vertices) })
+        (record { halfedges = fits .few-halfedges; edges = omega (arith, fits .few-halfedges, count-at-most (length (cageIn f .connectivity .twin)) (above (cageIn f .connectivity .twin))); vertices = omega (arith, fits .few-vertices) })
 
     few-borders : r .borders ≤ most-halfedges
     unfolding B
-    few-borders = omega (arith, bordered, fits .few-halfedges, count-at-most (length (twinsIn f)) (border (twinsIn f)))
+    few-borders = omega (arith, bordered, fits .few-halfedges, count-at-most (length (cageIn f .connectivity .twin)) (border (cageIn f .connectivity .twin)))
 
-    tables-done : first (tableChecks (cageIn f) (vertices (pointsIn f)) 0) ≡ DONE
-    tables-done = tables-accepted (cageIn f) (pointsIn f) 0 (fits .shaped .threes) (accepted-done f r e z)
+    tables-done : first (tableChecks (cageIn f .connectivity) (vertices (cageIn f .points)) 0) ≡ DONE
+    tables-done = tables-accepted (cageIn f .connectivity) (cageIn f .points) 0 (fits .shaped .threes) (plain-accepted f (accepts f r e z))
 
     -- demand 3: border edges double
-    doubled-borders : (k : ℕ) → k ≤ most-depth → doubled (r .borders) k ≡ levelBorders (countsOf (cageIn f) (vertices (pointsIn f))) (cageIn f) k
+    doubled-borders : (k : ℕ) → k ≤ most-depth → doubled (r .borders) k ≡ levelBorders (countsOf (cageIn f .connectivity) (vertices (cageIn f .points))) (cageIn f .connectivity) k
     unfolding levelBorders
-    doubled-borders k l = ap (λ b. doubled b k) bordered ∙ sym (accepted (cageIn f) (vertices (pointsIn f)) 0 tables-done k l .border-edges)
+    doubled-borders k l = ap (λ b. doubled b k) bordered ∙ sym (accepted (cageIn f .connectivity) (vertices (cageIn f .points)) 0 tables-done k l .border-edges)
 
-    lines-listed : levelLines (levels (counts r) most-depth) (doubled (r .borders)) ≡ cageLines (cageIn f) (pointsIn f)
+    lines-listed : levelLines (levels (counts r) most-depth) (doubled (r .borders)) ≡ cageLines (cageIn f .connectivity) (cageIn f .points)
     unfolding cageLines levelLines
     lines-listed =
         let l = levels (counts r) most-depth in
-        let bs = levelBorders (countsOf (cageIn f) (vertices (pointsIn f))) (cageIn f) in
+        let bs = levelBorders (countsOf (cageIn f .connectivity) (vertices (cageIn f .points))) (cageIn f .connectivity) in
         ap (λ t. t ++ roomLine (l .«halfedge_room») (l .«vertex_room») (l .«edge_room»)) (lines-alike l (doubled (r .borders)) bs 7 (λ k h. doubled-borders k (omega arith)))
         ∙ ap (λ t. levelLines (levels t most-depth) bs) counted
 

@@ -9,7 +9,7 @@ use text::streams;
 
 fn main() {
     // one byte more than the longest file that reads
-    let mut file = [0u8; 43033];
+    let mut file = [0u8; 46112];
     list_input(&mut file);
 }
 

@@ -57,13 +57,29 @@ fn read_part(part: &mut [u8]) -> Input
 // Says a reply: an answer and a refusal on standard output, what a question looks like on standard error.
 pub fn say(text: &[u8], status: usize) {
     if status == replies::MISUSED {
-        io::write_all(STDERR_FILENO, text);
-        end(status);
+        tell(text, status);
         return;
     }
     if put(text) {
         end(status);
     }
+}
+
+// Hands over a reply whose answer is a file: only that goes to standard output, and a refusal is told on standard error.
+pub fn hand_over(reply: &[u8], status: usize) {
+    if status != replies::ANSWERED {
+        tell(reply, status);
+        return;
+    }
+    if put(reply) {
+        end(status);
+    }
+}
+
+// Tells on standard error what is no answer.
+fn tell(text: &[u8], status: usize) {
+    io::write_all(STDERR_FILENO, text);
+    end(status);
 }
 
 // Puts a part of an answer on standard output; where that fails it is told, and the program is to put nothing more.
@@ -77,8 +93,7 @@ pub fn put(part: &[u8]) -> bool {
 
 // Says which stream failed.
 fn fail(message: &[u8]) {
-    io::write_all(STDERR_FILENO, message);
-    end(replies::FAILED);
+    tell(message, replies::FAILED);
 }
 
 // Hands the status over to the command.
