@@ -1,4 +1,4 @@
-// What the engines that build by hand share: every check but 13, and the counts.
+// What the engines that build and those that take files by hand share: every check but 13 of plain triangles, and the counts.
 #pragma once
 
 #include <algorithm>
@@ -45,8 +45,17 @@ inline size_t first_without_one_fan(const uint32_t* twin, const Corners& corners
   return v;
 }
 
+inline size_t first_unused(const Corners& corners, size_t vertices) {
+  const auto counts = corners.count.begin();
+  return std::find(counts, counts + vertices, 0u) - counts;
+}
+
 inline bool in_range(int32_t coordinate) {
   return coordinate >= -RYEBADGER_MOST_COORDINATE && coordinate <= RYEBADGER_MOST_COORDINATE;
+}
+
+inline size_t first_out_of_range(const int32_t* points, size_t cells) {
+  return std::find_if_not(points, points + cells, in_range) - points;
 }
 
 // Both tables into the lent ones, edges in the order of their lowest halfedges.
@@ -72,12 +81,12 @@ Answer build_with(const Soup& soup, Joins& lent, Join join) {
   Corners corners;
   const uint32_t bad = first_bad_vertex(soup, corners);
   if (bad < halfedges) return refused(RYEBADGER_VERTEX, bad);
-  const auto counts = corners.count.begin(), end = counts + vertices, unused = std::find(counts, end, 0u);
-  if (unused != end) return refused(RYEBADGER_UNUSED, unused - counts);
+  const size_t unused = first_unused(corners, vertices);
+  if (unused < vertices) return refused(RYEBADGER_UNUSED, unused);
   const size_t split = first_without_one_fan(twin, corners, vertices);
   if (split < vertices) return refused(RYEBADGER_FAN, split);
-  const auto far = std::find_if_not(soup.points.begin(), soup.points.end(), in_range);
-  if (far != soup.points.end()) return refused(RYEBADGER_POINT, far - soup.points.begin());
+  const size_t far = first_out_of_range(soup.points.data(), soup.points.size());
+  if (far < soup.points.size()) return refused(RYEBADGER_POINT, far);
   if (lent.twin.size() < halfedges) return refused(RYEBADGER_ROOM, 1);
   if (lent.edge.size() < halfedges) return refused(RYEBADGER_ROOM, 3);
   return write_joins(twin, uint32_t(halfedges), uint32_t(vertices), lent);

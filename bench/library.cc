@@ -13,6 +13,8 @@ void expect_done(const char* operation, const uint32_t* answer) {
                              std::to_string(answer[1]));
 }
 
+uint32_t number_of(Weight weight) { return weight == Weight::kShort ? RYEBADGER_SHORT_WEIGHT : RYEBADGER_PAPER_WEIGHT; }
+
 }  // namespace
 
 // A slice is a pointer and a length.
@@ -20,10 +22,9 @@ void expect_done(const char* operation, const uint32_t* answer) {
 
 void library_refine(const Cage& cage, int depth, Weight weight, Tables& lent) {
   uint32_t answer[RYEBADGER_COUNTS_ANSWER];
-  const uint32_t number = weight == Weight::kShort ? RYEBADGER_SHORT_WEIGHT : RYEBADGER_PAPER_WEIGHT;
   ryebadger_refine(CELLS(cage.twin), CELLS(cage.vert), CELLS(cage.edge), CELLS(cage.points), CELLS(cage.creases),
-                   uint64_t(depth), number, CELLS(lent.twin), CELLS(lent.vert), CELLS(lent.edge), CELLS(lent.points),
-                   CELLS(lent.creases), answer);
+                   uint64_t(depth), number_of(weight), CELLS(lent.twin), CELLS(lent.vert), CELLS(lent.edge),
+                   CELLS(lent.points), CELLS(lent.creases), answer);
   expect_done("refining", answer);
 }
 
@@ -33,16 +34,37 @@ void library_check(const Cage& cage) {
   expect_done("the check", answer);
 }
 
-void library_write(const Cage& cage, std::vector<uint8_t>& file) {
+void library_write(const Cage& cage, Bytes& file) {
   uint32_t answer[RYEBADGER_WRITE_ANSWER];
   ryebadger_write(CELLS(cage.twin), CELLS(cage.vert), CELLS(cage.edge), CELLS(cage.points), CELLS(file), answer);
   expect_done("writing", answer);
 }
 
-void library_read(const std::vector<uint8_t>& file, Tables& lent) {
-  uint32_t answer[RYEBADGER_READ_ANSWER];
-  ryebadger_read(CELLS(file), CELLS(lent.twin), CELLS(lent.vert), CELLS(lent.edge), CELLS(lent.points), answer);
-  expect_done("reading", answer);
+FileRead library_read(const Bytes& file, Tables& lent) {
+  FileRead answer;
+  static_assert(std::tuple_size<FileRead>::value == RYEBADGER_READ_ANSWER, "reading's answer");
+  ryebadger_read(CELLS(file), CELLS(lent.twin), CELLS(lent.vert), CELLS(lent.edge), CELLS(lent.points), CELLS(lent.creases),
+                 answer.data());
+  return answer;
+}
+
+Written library_write_form_2(const Cage& cage, Weight weight, Bytes& file) {
+  Written answer;
+  ryebadger_write_form_2(CELLS(cage.twin), CELLS(cage.vert), CELLS(cage.edge), CELLS(cage.points), CELLS(cage.creases),
+                         number_of(weight), CELLS(file), answer.data());
+  return answer;
+}
+
+Written library_to_form_2(const Bytes& file, Bytes& lent) {
+  Written answer;
+  ryebadger_to_form_2(CELLS(file), CELLS(lent), answer.data());
+  return answer;
+}
+
+Written library_to_form_1(const Bytes& file, Bytes& lent) {
+  Written answer;
+  ryebadger_to_form_1(CELLS(file), CELLS(lent), answer.data());
+  return answer;
 }
 
 Answer library_build(const Soup& soup, Joins& lent) {

@@ -1,5 +1,5 @@
 // The report: the proved library beside other engines, in refining with either weight and with creases, in building, in writing
-// STL and in the count question, its cost by depth, and its other operations by size.
+// STL, in the count question and in cage files, its cost by depth, and its other operations by size.
 #include <cstdio>
 #include <functional>
 #include <stdexcept>
@@ -10,6 +10,7 @@
 #include "counts.h"
 #include "creases.h"
 #include "engines.h"
+#include "files.h"
 #include "library.h"
 #include "rows.h"
 #include "stl.h"
@@ -117,7 +118,7 @@ void print_operations() {
   for (const Cage& cage : cages) print_operation("check, torus", cage, [&] { library_check(cage); });
   const Cage hub = wheel(1024);
   print_operation("check, wheel round one vertex", hub, [&] { library_check(hub); });
-  std::vector<std::vector<uint8_t>> files;
+  std::vector<Bytes> files;
   for (const Cage& cage : cages) {
     files.emplace_back(24 + 6 * cage.twin.size() + 4 * cage.points.size());
     print_operation("write with its checks, torus", cage, [&] { library_write(cage, files.back()); });
@@ -125,7 +126,7 @@ void print_operations() {
   for (size_t i = 0; i < cages.size(); ++i) {
     Tables lent = cages[i];
     fill(lent);
-    lent.creases = cages[i].creases;  // which the file has none of
+    lent.creases = cages[i].creases;  // which form 1 has none of
     print_operation("read, torus", cages[i], [&] { library_read(files[i], lent); });
     if (!(lent == cages[i])) throw std::runtime_error("a cage read is not the cage written");
   }
@@ -141,6 +142,7 @@ int main(int count, char** words) try {
   }
   const bool refining = print_engines(), weights = print_weights(), creases = print_creases(), building = print_building(),
              stl = print_stl(), counts = print_counts();
+  print_files();
   print_depths();
   print_operations();
   return bars && !(refining && weights && creases && building && stl && counts) ? 1 : 0;

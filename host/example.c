@@ -1,6 +1,7 @@
-/* example FILE DEPTH short|paper [STL [EDGE=NUMBER ...]]: reads a cage file, quotes the room for the depth, refines with the
- * short weight or the paper's, and prints H, E and V of each level. With a fourth argument it writes the last level as STL to
- * that file; each further one makes a crease of an edge, which then stays sharp for so many levels.
+/* example FILE DEPTH short|paper|file [STL [EDGE=NUMBER ...]]: reads a cage file of either form, quotes the room for the
+ * depth, refines with the short weight, the paper's or the file's own, and prints H, E and V of each level. With a fourth
+ * argument it writes the last level as STL to that file; each further one changes the crease of an edge, which then stays sharp
+ * for so many levels.
  * Ends with status 1 where the cage or the depth is refused, and with 2 where anything else is wrong. */
 #include "ryebadger.h"
 
@@ -8,12 +9,12 @@
 #include <stdlib.h>
 #include <string.h>
 
-static const char usage[] = "usage: example FILE DEPTH short|paper [STL [EDGE=NUMBER ...]]";
-enum { H = RYEBADGER_MOST_HALFEDGES, V = RYEBADGER_MOST_VERTICES };
+static const char usage[] = "usage: example FILE DEPTH short|paper|file [STL [EDGE=NUMBER ...]]";
+enum { H = RYEBADGER_MOST_HALFEDGES, V = RYEBADGER_MOST_VERTICES, WEIGHT_OF_FILE = RYEBADGER_PAPER_WEIGHT + 1 };
 static uint8_t file[RYEBADGER_LONGEST_FILE + 1]; /* a byte more, so that a longer file is refused as such */
 static uint32_t twin[H], vert[H], edge[H], answer[RYEBADGER_COUNTS_ANSWER];
 static int32_t points[3 * V];
-static uint8_t creases[H]; /* zeros: there are at most as many edges as halfedges */
+static uint8_t creases[H]; /* there are at most as many edges as halfedges; a file of form 1 leaves zeros */
 
 static void end_if(int wrong, const char *what) {
     if (wrong) fprintf(stderr, "example: %s\n", what), exit(2);
@@ -23,10 +24,11 @@ static void end_if_refused(void) {
     if (answer[0] != RYEBADGER_DONE) fprintf(stderr, "refused %u %u\n", answer[0], answer[1]), exit(1);
 }
 
-static enum ryebadger_weight weight_named(const char *word) {
-    const int is_short = strcmp(word, "short") == 0;
-    end_if(!is_short && strcmp(word, "paper") != 0, usage);
-    return is_short ? RYEBADGER_SHORT_WEIGHT : RYEBADGER_PAPER_WEIGHT;
+static uint32_t weight_named(const char *word) {
+    if (strcmp(word, "short") == 0) return RYEBADGER_SHORT_WEIGHT;
+    if (strcmp(word, "paper") == 0) return RYEBADGER_PAPER_WEIGHT;
+    end_if(strcmp(word, "file") != 0, usage);
+    return WEIGHT_OF_FILE;
 }
 
 static void crease(const char *word, size_t edges) {
@@ -54,7 +56,7 @@ static void write_stl(const char *name, const uint32_t *corners, size_t h, const
 
 int main(int argc, char **argv) {
     end_if(argc < 4, usage);
-    const enum ryebadger_weight weight = weight_named(argv[3]);
+    uint32_t weight = weight_named(argv[3]);
     char *rest;
     const uint64_t depth = strtoull(argv[2], &rest, 10);
     end_if(rest == argv[2] || *rest != '\0', "the depth is not a number");
@@ -63,9 +65,10 @@ int main(int argc, char **argv) {
     const size_t length = fread(file, 1, sizeof file, in);
     end_if(ferror(in), "the file cannot be read");
 
-    ryebadger_read(file, length, twin, H, vert, H, edge, H, points, 3 * V, answer);
+    ryebadger_read(file, length, /* into */ twin, H, vert, H, edge, H, points, 3 * V, creases, H, answer);
     end_if_refused();
-    const size_t h = answer[2], v = answer[3];
+    const size_t h = answer[RYEBADGER_AT_FILE_H], v = answer[RYEBADGER_AT_FILE_V];
+    if (weight == WEIGHT_OF_FILE) weight = answer[RYEBADGER_AT_FILE_WEIGHT];
     ryebadger_edges(twin, h, answer);
     const size_t e = answer[0];
     for (int word = 5; word < argc; word++) crease(argv[word], e);

@@ -1,6 +1,6 @@
-/* Ryebadger for C and C++: check, quote, refine, read and write a triangle cage, build one from plain triangles, or write any
- * level as STL. The words, numbers and tables are those of document 01, the scope of the build, and of document 02, its
- * requests; what each operation promises here is proved of it.
+/* Ryebadger for C and C++: check, quote, refine, read and write a triangle cage, move its file from one form to the other,
+ * build a cage from plain triangles, or write any level as STL. The words, numbers and tables are those of document 01, the
+ * scope of the build, and of document 02, its requests; what each operation promises here is proved of it.
  *
  * The archive to link is target/host/libryebadger.a, which host/build makes.
  *
@@ -44,9 +44,16 @@ extern "C" {
 #define RYEBADGER_MOST_CREASE 10
 #define RYEBADGER_MOST_COORDINATE 1048576
 
-/* The levels of the deepest refinement, level 0 among them, and the bytes of the longest cage file. */
+/* The levels of the deepest refinement, level 0 among them. */
 #define RYEBADGER_LEVELS 7
-#define RYEBADGER_LONGEST_FILE 43032
+
+/* The forms of a cage file: form 2 has a crease for each edge and a weight, for which form 1 has no place. */
+enum ryebadger_form { RYEBADGER_FORM_1 = 1, RYEBADGER_FORM_2 = 2 };
+
+/* The bytes of the longest cage file of each form that is read, and of either. */
+#define RYEBADGER_LONGEST_FORM_1 43032
+#define RYEBADGER_LONGEST_FORM_2 46111
+#define RYEBADGER_LONGEST_FILE RYEBADGER_LONGEST_FORM_2
 
 /* The longest VERT table that is written as STL, which is that of level 6 of the largest cage, and the bytes of an STL file of
  * so many triangles. */
@@ -62,8 +69,8 @@ enum ryebadger_weight { RYEBADGER_SHORT_WEIGHT = 0, RYEBADGER_PAPER_WEIGHT = 1 }
 #define RYEBADGER_MOST_CORNERS 32
 
 /* The numbers of an answer, by the documents' names, with the place that goes with each. Checks run in the order of their
- * numbers, except in reading and in building, and except that the length of the creases is looked at after 3 and before 4,
- * that 15 comes after 6 and before 7, and 14 after 7 and before 8; the first that holds is the answer. */
+ * numbers, except in reading, in the moves and in building, and except that the length of the creases is looked at after 3 and
+ * before 4, that 15 comes after 6 and before 7, and 14 after 7 and before 8; the first that holds is the answer. */
 enum ryebadger_number {
     RYEBADGER_DONE = 0,     /* 0 */
     RYEBADGER_SHAPE = 1,    /* lengths or counts that no cage has: 0 */
@@ -76,11 +83,12 @@ enum ryebadger_number {
     RYEBADGER_POINT = 8,    /* a coordinate out of range: the lowest such index in the points */
     RYEBADGER_ROOM = 9,     /* a lent table is too short: the first, by its place, which enum ryebadger_place has */
     RYEBADGER_SHORT = 10,   /* the file ends before a field's head and payload are whole: the offset of that head */
-    RYEBADGER_FIELD = 11,   /* wrong tag, length or form number: the offset of that head */
+    RYEBADGER_FIELD = 11,   /* wrong tag, length, form number or weight: the offset of that head */
     RYEBADGER_EXTRA = 12,   /* bytes after the end field: the offset of the first */
     RYEBADGER_DOUBLED = 13, /* two halfedges from the same vertex to the same one: the lowest that has such a double */
     RYEBADGER_VALENCE = 14, /* an inner vertex of too many corners for the paper's weight: the lowest such vertex */
-    RYEBADGER_CREASE = 15   /* a crease out of range, or on a border edge and not 0: the lowest such edge */
+    RYEBADGER_CREASE = 15,  /* a crease out of range, or on a border edge and not 0: the lowest such edge */
+    RYEBADGER_NOT_OLD = 16  /* a crease or a weight that is not 0, in a file to be moved to form 1: 0 */
 };
 
 /* The places of RYEBADGER_ROOM: what is lent, in the order in which it is looked at. */
@@ -94,13 +102,13 @@ enum ryebadger_place {
     RYEBADGER_CREASE_TABLE = 7
 };
 
-/* The lengths of the answers. Building answers as the cage check does, refining as the count question, writing STL as writing
- * a cage file. */
+/* The lengths of the answers. Building answers as the cage check does, refining as the count question, the moves and writing
+ * STL as writing a cage file. */
 #define RYEBADGER_CHECK_ANSWER 7
 #define RYEBADGER_EDGES_ANSWER 1
 #define RYEBADGER_COUNTS_ANSWER 26
 #define RYEBADGER_CORNERS_ANSWER 5
-#define RYEBADGER_READ_ANSWER 4
+#define RYEBADGER_READ_ANSWER 7
 #define RYEBADGER_WRITE_ANSWER 3
 
 /* Where the answer of the count question, which refining gives too, has its values: H, E and V of level 0, those of level d
@@ -112,6 +120,15 @@ enum ryebadger_counts_values {
     RYEBADGER_AT_H_ROOM = 23,
     RYEBADGER_AT_V_ROOM = 24,
     RYEBADGER_AT_E_ROOM = 25
+};
+
+/* Where the answer of reading has its values: the form, H, V and E, and the weight, each by its number. */
+enum ryebadger_read_values {
+    RYEBADGER_AT_FILE_FORM = 2,
+    RYEBADGER_AT_FILE_H = 3,
+    RYEBADGER_AT_FILE_V = 4,
+    RYEBADGER_AT_FILE_E = 5,
+    RYEBADGER_AT_FILE_WEIGHT = 6
 };
 
 /* E of any TWIN table, which is how long the creases of its cage have to be: how many halfedges have no twin or a twin with a
@@ -154,19 +171,41 @@ void ryebadger_refine(const uint32_t *twin, size_t twin_length, const uint32_t *
 void ryebadger_corners(const uint32_t *vert, size_t vert_length, uint64_t triangle,
                        uint32_t answer[RYEBADGER_CORNERS_ANSWER]);
 
-/* Reading a cage file: refusals 1, 2 and 9 to 12, in the order in which the file is read, 9 last. Done, the values are H and
- * V, and the cage stands at the front of the lent tables; cells past H, or past 3V in the points, are untouched. The file has
- * no creases, and its cage counts as all zeros. The cage has not been checked: checks 3 to 8 are for ryebadger_check,
- * ryebadger_refine and ryebadger_write. */
+/* Reading a cage file of either form: refusals 1, 2 and 9 to 12, and of form 2 also 3, in the order in which the file is read,
+ * 9 last. The creases of form 2 are as many as its twins make edges, so 3 comes once EDGE is whole and before the creases.
+ * Done, the values stand where enum ryebadger_read_values has them, and the cage stands at the front of the lent tables.
+ * Needed is H in each of the first three, 3V in the points and, of form 2, E in the creases; cells past that are untouched.
+ * Of form 1 no crease is written, and E and the weight are told as 0: its cage has a crease of 0 for each edge, as many as
+ * ryebadger_edges tells, and the short weight. No other check has been run: that is for ryebadger_check, ryebadger_refine,
+ * the two that write a cage file, and the moves. */
 void ryebadger_read(const uint8_t *file, size_t file_length, uint32_t *lent_twin, size_t lent_twin_length,
                     uint32_t *lent_vert, size_t lent_vert_length, uint32_t *lent_edge, size_t lent_edge_length,
-                    int32_t *lent_points, size_t lent_points_length, uint32_t answer[RYEBADGER_READ_ANSWER]);
+                    int32_t *lent_points, size_t lent_points_length, uint8_t *lent_creases, size_t lent_creases_length,
+                    uint32_t answer[RYEBADGER_READ_ANSWER]);
 
-/* Writing a cage file, which has no place for creases: refusals 1 to 9, where 9 has place 5. Done, the value is the file's
- * length, which is 24 + 6H + 12V, and the file stands at the front of the lent buffer; bytes past it are untouched. */
+/* Writing a cage file of form 1, from a cage without creases: refusals 1 to 9, where 9 has place 5. Done, the value is the
+ * file's length, which is 24 + 6H + 12V, and the file stands at the front of the lent buffer; bytes past it are untouched. */
 void ryebadger_write(const uint32_t *twin, size_t twin_length, const uint32_t *vert, size_t vert_length,
                      const uint32_t *edge, size_t edge_length, const int32_t *points, size_t points_length,
                      uint8_t *lent_file, size_t lent_file_length, uint32_t answer[RYEBADGER_WRITE_ANSWER]);
+
+/* Writing a cage file of form 2, with the cage's creases and a weight of enum ryebadger_weight: the cage check's refusals in
+ * its order, then 9, with place 5. 14, which is for refining, is not among them. Done, the value is the file's length, which
+ * is 31 + 6H + 12V + E, and the file stands at the front of the lent buffer; bytes past it are untouched. */
+void ryebadger_write_form_2(const uint32_t *twin, size_t twin_length, const uint32_t *vert, size_t vert_length,
+                            const uint32_t *edge, size_t edge_length, const int32_t *points, size_t points_length,
+                            const uint8_t *creases, size_t creases_length, uint32_t weight, uint8_t *lent_file,
+                            size_t lent_file_length, uint32_t answer[RYEBADGER_WRITE_ANSWER]);
+
+/* Moving a cage file to the other form: reading's refusals but 9, where a file that is not of the form to start from is
+ * refused as one of no form, by 11 at 0; then the cage check's, in its order; to form 1 also 16, where a crease or the weight is
+ * not 0; then 9, with place 5. Done, the value is the new file's length, and the new file stands at the front of the lent
+ * buffer; bytes past it are untouched. To form 2 each edge gets a crease of 0, and the file the short weight. A file that has
+ * been moved can be moved back, and comes out as it was, byte for byte. */
+void ryebadger_to_form_2(const uint8_t *file, size_t file_length, uint8_t *lent_file, size_t lent_file_length,
+                         uint32_t answer[RYEBADGER_WRITE_ANSWER]);
+void ryebadger_to_form_1(const uint8_t *file, size_t file_length, uint8_t *lent_file, size_t lent_file_length,
+                         uint32_t answer[RYEBADGER_WRITE_ANSWER]);
 
 /* Building a cage from plain triangles, which are VERT, a triangle's three corner numbers after another's, and the points.
  * Refusals 1, 2, 13, 4, 5, 7, 8 and 9, in this order; 9 has place 1 or 3. Done, TWIN and EDGE stand at the front of the

@@ -46,6 +46,11 @@ pub(crate) fn check_without_creases(cage: &Cage) -> Result<CageCounts, Refusal> 
     check(&cage.clone().without_creases())
 }
 
+/// Check 3 alone, for reading a file of form 2.
+pub(crate) fn check_twins(cage: &Cage) -> Result<(), Refusal> {
+    refuse_where_broken(cage, &[TWIN_RULE])
+}
+
 /// The checks of refining before there is a question of room: the cage check's,
 /// with the depth in 2, and with the paper's weight 14 "after 7 and before 8",
 /// "at any depth".
@@ -94,10 +99,13 @@ fn refuse_bad_size(cage: &Cage, depth: u64) -> Result<(), Refusal> {
 /// rule may rely on the shape and on all rules before it.
 type Rule = (u32, fn(&Cage) -> Option<usize>);
 
+/// Refusal 3.
+const TWIN_RULE: Rule = (TWIN, lowest_bad_twin);
+
 /// Refusals 3 to 7, with 1 for the crease table "after 3 and before 4" and 15
 /// "after 6 and before 7".
 const TABLE_RULES: [Rule; 7] = [
-    (TWIN, lowest_bad_twin),
+    TWIN_RULE,
     (SHAPE, creases_of_wrong_length),
     (VERTEX, lowest_bad_vertex),
     (UNUSED, lowest_unused_vertex),

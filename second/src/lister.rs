@@ -1,5 +1,5 @@
-//! Document 01, "The level lister": from the bytes of a cage file to the
-//! printed lines; document 02, §6: its room line has a third number.
+//! Document 01, "The level lister": from the bytes of a cage file of either form
+//! to the printed lines; document 02, §6: its room line has a third number.
 
 use crate::cage::DEPTH_LIMIT;
 use crate::check::check;
@@ -14,7 +14,7 @@ pub fn list_levels(file: &[u8]) -> String {
 
 /// The lines of an accepted cage's levels, or the refusal.
 pub fn level_lines(file: &[u8]) -> Result<String, Refusal> {
-    let checked = check(&read_cage(file)?)?;
+    let checked = check(&read_cage(file)?.cage)?;
     let counts = count_question(
         checked.halfedges,
         checked.edges,

@@ -1,7 +1,8 @@
 //! The command line of the second program. The level lister of document 01
 //! is `second list`, the count question `second counts`, the disk program of
-//! document 02, §2 `second stl`, the entries of its §4 `second weights`; the
-//! other commands are for comparing and trying.
+//! document 02, §2 `second stl`, the entries of its §4 `second weights`, the moves
+//! of its §7 `second form-2` and `second form-1`; the other commands are for
+//! comparing and trying.
 
 use std::io::{self, Read, Write};
 use std::process::ExitCode;
@@ -9,14 +10,15 @@ use std::process::ExitCode;
 use second::cage::Cage;
 use second::check::{check, CageCounts};
 use second::counter::count_levels;
-use second::file::write_cage_file;
+use second::file::{to_form_1, to_form_2, write_cage_file, write_form_2_file, LONGEST_FORM_2};
 use second::lister::list_levels;
+use second::refusal::Refusal;
 use second::stl::level_0_stl;
 use second::suite::{cage_named, suite, SuiteCage};
-use second::weight::{paper_part, VALENCES};
+use second::weight::{paper_part, Weight, VALENCES};
 
 const USAGE: &str = "usage: second list | second counts | second stl | second weights \
-     | second cage NAME | second suite";
+     | second form-2 | second form-1 | second cage NAME [short | paper] | second suite";
 
 fn main() -> ExitCode {
     let words: Option<Vec<String>> = std::env::args_os()
@@ -55,6 +57,12 @@ impl From<io::Error> for Trouble {
     }
 }
 
+impl From<Refusal> for Trouble {
+    fn from(refusal: Refusal) -> Trouble {
+        Trouble::Message(refusal.to_string())
+    }
+}
+
 /// What these words ask to be printed.
 fn output(words: &[&str]) -> Result<Vec<u8>, Trouble> {
     let text = match words {
@@ -63,7 +71,11 @@ fn output(words: &[&str]) -> Result<Vec<u8>, Trouble> {
         ["weights"] => VALENCES.filter_map(weight_line).collect(),
         ["suite"] => suite().iter().map(suite_line).collect(),
         ["stl"] => return Ok(stl_of(&standard_input()?)),
-        ["cage", name] => return cage_file(name),
+        ["form-2"] => return moved(to_form_2, &standard_input()?),
+        ["form-1"] => return moved(to_form_1, &standard_input()?),
+        ["cage", name] => return form_1_file(name),
+        ["cage", name, "short"] => return form_2_file(name, Weight::Short),
+        ["cage", name, "paper"] => return form_2_file(name, Weight::Paper),
         _ => return Err(Trouble::Usage),
     };
     Ok(text.into_bytes())
@@ -120,16 +132,35 @@ fn check_answer(cage: &Cage) -> String {
     }
 }
 
-/// The cage file of a named cage, which has no place for its creases.
-fn cage_file(name: &str) -> Result<Vec<u8>, Trouble> {
+/// A move of document 02, §7.
+type Move = fn(&[u8], &mut [u8]) -> Result<u64, Refusal>;
+
+/// The file that a move makes of this one.
+fn moved(to_other_form: Move, file: &[u8]) -> Result<Vec<u8>, Trouble> {
+    written(|lent| to_other_form(file, lent))
+}
+
+/// The form 1 file of a named cage, which has no place for its creases.
+fn form_1_file(name: &str) -> Result<Vec<u8>, Trouble> {
+    let cage = named(name)?;
+    written(|lent| write_cage_file(&cage, lent))
+}
+
+/// The form 2 file of a named cage, with its creases and this weight.
+fn form_2_file(name: &str, weight: Weight) -> Result<Vec<u8>, Trouble> {
+    let cage = named(name)?;
+    written(|lent| write_form_2_file(&cage, weight, lent))
+}
+
+fn named(name: &str) -> Result<Cage, Trouble> {
     let unknown = || Trouble::Message(format!("there is no cage named {name}"));
-    let cage = cage_named(name).ok_or_else(unknown)?;
-    let mut file = vec![0; LONGEST_FILE];
-    let length = write_cage_file(&cage, &mut file)
-        .map_err(|refusal| Trouble::Message(refusal.to_string()))?;
+    cage_named(name).ok_or_else(unknown)
+}
+
+/// What is written to the front of a buffer that is long enough for any file.
+fn written(write: impl FnOnce(&mut [u8]) -> Result<u64, Refusal>) -> Result<Vec<u8>, Trouble> {
+    let mut file = vec![0; LONGEST_FORM_2];
+    let length = write(&mut file)?;
     file.truncate(length as usize);
     Ok(file)
 }
-
-/// More bytes than any cage file has.
-const LONGEST_FILE: usize = 65_536;

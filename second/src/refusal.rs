@@ -18,6 +18,7 @@ pub const EXTRA: u32 = 12;
 pub const DOUBLED: u32 = 13;
 pub const VALENCE: u32 = 14;
 pub const CREASE: u32 = 15;
+pub const NOT_OLD: u32 = 16;
 
 /// The first check that holds, and where.
 #[derive(Clone, Copy, Debug, PartialEq, Eq)]

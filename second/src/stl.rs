@@ -40,10 +40,10 @@ pub fn write_stl(vert: &[u32], points: &[i32], lent: &mut [u8]) -> Result<u64, R
     Ok(length as u64)
 }
 
-/// The STL of level 0 of the cage in a cage file, or the refusal that the level
-/// lister prints.
+/// The STL of level 0 of the cage in a cage file of either form, or the refusal
+/// that the level lister prints.
 pub fn level_0_stl(file: &[u8]) -> Result<Vec<u8>, Refusal> {
-    let cage = read_cage(file)?;
+    let cage = read_cage(file)?.cage;
     check(&cage)?;
     let mut stl = vec![0; stl_length(cage.triangle_count())];
     write_stl(&cage.vert, &cage.points, &mut stl)?;

@@ -1,6 +1,6 @@
 //! Document 01, "Why a cage is sent back", refusal 9, and the laying of cells
 //! in lent tables that refining and reading share. The crease table of document
-//! 02, §6 is refining's alone.
+//! 02, §6 is apart from the others, since reading form 1 leaves it alone.
 
 use crate::cage::Cage;
 use crate::refusal::{refuse_if, Refusal, ROOM};

@@ -3,8 +3,12 @@
 use std::io::Write;
 use std::process::{Command, Output, Stdio};
 
+use second::questions::files::{form_1_file, form_2_file};
 use second::stl::level_0_stl;
-use second::weight::paper_part;
+use second::suite::cage_named;
+use second::weight::{paper_part, Weight};
+
+const WEIGHTS: [Weight; 2] = [Weight::Short, Weight::Paper];
 
 /// Runs the second program with these words and this standard input.
 fn run(words: &[&str], input: &[u8]) -> Output {
@@ -22,16 +26,21 @@ fn run(words: &[&str], input: &[u8]) -> Output {
     child.wait_with_output().expect("ended")
 }
 
-fn printed(words: &[&str], input: &[u8]) -> String {
+/// The bytes that a command prints.
+fn bytes(words: &[&str], input: &[u8]) -> Vec<u8> {
     let output = run(words, input);
     assert!(output.status.success(), "{words:?}");
     assert!(output.stderr.is_empty(), "{words:?}");
-    String::from_utf8(output.stdout).expect("text")
+    output.stdout
+}
+
+fn printed(words: &[&str], input: &[u8]) -> String {
+    String::from_utf8(bytes(words, input)).expect("text")
 }
 
 #[test]
 fn unknown_usage_is_told() {
-    let unknown: [&[&str]; 7] = [
+    let unknown: [&[&str]; 12] = [
         &[],
         &["lists"],
         &["list", "more"],
@@ -39,6 +48,11 @@ fn unknown_usage_is_told() {
         &["stl", "more"],
         &["weights", "2"],
         &["cage"],
+        &["cage", "triangle", "long"],
+        &["cage", "triangle", "short", "paper"],
+        &["form-2", "more"],
+        &["form-1", "more"],
+        &["form-3"],
     ];
     for words in unknown {
         let output = run(words, &[]);
@@ -56,6 +70,61 @@ fn a_named_cage_is_listed() {
         assert_eq!(listed.lines().count(), 8, "{name}");
     }
     assert_eq!(printed(&["list"], b"x"), "refused 10 0\n");
+}
+
+/// Form 1 without a weight, form 2 with either.
+#[test]
+fn a_named_cage_is_written_in_both_forms() {
+    for name in ["triangle", "cushion", "creased-ring-torus"] {
+        let cage = cage_named(name).expect("in the suite");
+        assert_eq!(bytes(&["cage", name], &[]), form_1_file(&cage));
+        let [short, paper] = WEIGHTS.map(|weight| form_2_file(&cage, weight));
+        assert_eq!(bytes(&["cage", name, "short"], &[]), short);
+        assert_eq!(bytes(&["cage", name, "paper"], &[]), paper);
+        for file in [short, paper] {
+            assert_eq!(printed(&["list"], &file).lines().count(), 8);
+            assert_eq!(Ok(bytes(&["stl"], &file)), level_0_stl(&file));
+        }
+    }
+}
+
+#[test]
+fn files_are_moved_there_and_back() {
+    for name in ["triangle", "pillow", "torus-32x16"] {
+        let form_1 = bytes(&["cage", name], &[]);
+        let form_2 = bytes(&["cage", name, "short"], &[]);
+        assert_eq!(bytes(&["form-2"], &form_1), form_2, "{name}");
+        assert_eq!(bytes(&["form-1"], &form_2), form_1, "{name}");
+    }
+    // A file of form 1 counts as all zeros.
+    let form_1 = bytes(&["cage", "creased-ring-torus"], &[]);
+    let plain = bytes(&["form-2"], &form_1);
+    assert_eq!(bytes(&["form-1"], &plain), form_1);
+}
+
+/// The lister's line goes to standard error, and nothing to standard output.
+#[test]
+fn what_is_not_moved_is_told() {
+    let form_1 = bytes(&["cage", "triangle"], &[]);
+    let paper = bytes(&["cage", "triangle", "paper"], &[]);
+    let creased = bytes(&["cage", "creased-ring-torus", "short"], &[]);
+    let mut own_twin = paper.clone();
+    own_twin[12..14].fill(0);
+    let refused: [(&str, &[u8], &[u8]); 7] = [
+        ("form-1", &[], b"refused 10 0\n"),
+        ("form-1", &form_1, b"refused 11 0\n"),
+        ("form-2", &paper, b"refused 11 0\n"),
+        ("form-1", &paper, b"refused 16 0\n"),
+        ("form-1", &creased, b"refused 16 0\n"),
+        ("form-1", &own_twin, b"refused 3 0\n"),
+        ("form-2", &form_1[..77], b"refused 10 75\n"),
+    ];
+    for (word, file, line) in refused {
+        let output = run(&[word], file);
+        assert_eq!(output.status.code(), Some(1), "{word}");
+        assert!(output.stdout.is_empty(), "{word}");
+        assert_eq!(output.stderr, line, "{word}");
+    }
 }
 
 #[test]
@@ -140,6 +209,12 @@ fn a_cage_without_a_file_is_told() {
     assert_eq!(refused.status.code(), Some(1));
     assert_eq!(refused.stderr, b"refused 7 0\n");
     assert_eq!(run(&["cage", "nothing"], &[]).status.code(), Some(1));
+    // Wrong creases are in the way of form 2 alone.
+    let name = "crease-pillow-length-2";
+    let refused = run(&["cage", name, "paper"], &[]);
+    assert_eq!(refused.status.code(), Some(1));
+    assert_eq!(refused.stderr, b"refused 1 0\n");
+    assert_eq!(bytes(&["cage", name], &[]).len(), 24 + 6 * 6 + 12 * 3);
 }
 
 #[test]

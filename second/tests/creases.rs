@@ -417,7 +417,7 @@ fn lengths_that_are_refused() {
 
 /// "Writing form 1 takes no creases": neither their numbers nor their length matter.
 #[test]
-fn a_file_has_no_place_for_creases() {
+fn a_form_1_file_has_no_place_for_creases() {
     let plain = tetrahedron([0; 6]);
     let file = file_of(&plain);
     for creases in [vec![3; 6], vec![255; 6], vec![], vec![0; 7]] {
@@ -427,7 +427,7 @@ fn a_file_has_no_place_for_creases() {
         };
         assert_eq!(file_of(&cage), file);
     }
-    assert_eq!(read_cage(&file), Ok(plain));
+    assert_eq!(read_cage(&file).map(|read| read.cage), Ok(plain));
     for entry in suite() {
         let (mut with, mut without) = (vec![7; 50_000], vec![7; 50_000]);
         let answer = write_cage_file(&entry.cage, &mut with);

@@ -1,36 +1,24 @@
-//! Document 01, "The cage file". Document 02, §6: such files have no place for
-//! creases, and "count as all zeros".
+//! Document 01, "The cage file": form 1. Document 02, §6: such files have no place
+//! for creases, and "count as all zeros"; §7: form, E and weight of what was read.
 
 mod common;
 
-use common::{document_triangle, file_of, lend, lendable};
-use second::cage::{Cage, MARKER};
+use common::{document_triangle, file_of, lendable, read_into};
+use second::cage::MARKER;
 use second::check::check;
 use second::draw::Draw;
-use second::file::{read_cage, read_cage_file, write_cage_file, FileCounts};
+use second::file::{
+    read_cage, write_cage_file, FileCage, FileCounts, Form, LONGEST_FORM_1, LONGEST_FORM_2,
+};
 use second::refusal::Refusal;
 use second::suite::{accepted_cages, suite};
+use second::weight::Weight;
 
 /// The offsets of the triangle's heads, and the file's end.
 const HEADS: [usize; 7] = [0, 9, 18, 27, 36, 75, 78];
 
-/// Reads into tables of these lengths, and a crease table of which no cell may
-/// change. On a refusal no other may either.
-fn read_into(file: &[u8], [twin, vert, edge, points]: [usize; 4]) -> Read {
-    let before = lendable([twin, vert, edge, points, 5]);
-    let mut tables = before.clone();
-    let answer = read_cage_file(file, &mut lend(&mut tables));
-    if answer.is_err() {
-        assert_eq!(tables, before);
-    }
-    assert_eq!(tables.creases, before.creases);
-    answer.map(|counts| (counts, tables))
-}
-
-type Read = Result<(FileCounts, Cage), Refusal>;
-
 fn refusal_of(file: &[u8]) -> Option<Refusal> {
-    let answer = read_into(file, [3, 3, 3, 9]).err();
+    let answer = read_into(file, [3, 3, 3, 9, 5]).err();
     assert_eq!(read_cage(file).err(), answer);
     answer
 }
@@ -47,13 +35,24 @@ fn a_cage_written_and_read_is_the_same() {
     for entry in accepted_cages() {
         let cage = entry.cage;
         let h = cage.halfedge_count();
-        let exact = [h, h, h, cage.points.len()];
+        let exact = [h, h, h, cage.points.len(), 0];
         let (counts, tables) = read_into(&file_of(&cage), exact).expect(&entry.name);
         let cage = cage.without_creases();
         assert_eq!(tables.without_creases(), cage, "{}", entry.name);
-        assert_eq!(read_cage(&file_of(&cage)), Ok(cage.clone()));
-        assert_eq!(counts.halfedges, h as u64);
-        assert_eq!(counts.vertices, cage.vertex_count() as u64);
+        let expected = FileCounts {
+            form: 1,
+            halfedges: h as u64,
+            vertices: cage.vertex_count() as u64,
+            edges: 0,
+            weight: 0,
+        };
+        assert_eq!(counts, expected, "{}", entry.name);
+        let expected = FileCage {
+            form: Form::One,
+            weight: Weight::Short,
+            cage: cage.clone(),
+        };
+        assert_eq!(read_cage(&file_of(&cage)), Ok(expected));
     }
 }
 
@@ -61,7 +60,7 @@ fn a_cage_written_and_read_is_the_same() {
 fn a_file_read_and_written_is_the_same() {
     for entry in accepted_cages() {
         let file = file_of(&entry.cage);
-        let cage = read_cage(&file).expect(&entry.name);
+        let cage = read_cage(&file).expect(&entry.name).cage;
         assert_eq!(file_of(&cage), file, "{}", entry.name);
         let (h, v) = (cage.halfedge_count(), cage.vertex_count());
         assert_eq!(file.len(), 24 + 6 * h + 12 * v, "{}", entry.name);
@@ -120,8 +119,16 @@ fn any_wrong_byte_of_a_head_is_refused_there() {
 #[test]
 fn the_first_payload_in_order() {
     // Form, then H, then the limits, all before the next head.
-    assert_eq!(refusal_of(&with_byte(3, 2)), Some(Refusal::new(11, 0)));
-    assert_eq!(refusal_of(&with_byte(4, 1)), Some(Refusal::new(11, 0)));
+    let wrong_form = Some(Refusal::new(11, 0));
+    for byte in [3, 4, 128, 255] {
+        assert_eq!(refusal_of(&with_byte(3, byte)), wrong_form);
+        assert_eq!(refusal_of(&with_byte(4, byte)), wrong_form);
+    }
+    assert_eq!(refusal_of(&with_byte(3, 0)), wrong_form);
+    assert_eq!(refusal_of(&with_byte(4, 1)), wrong_form);
+    assert_eq!(refusal_of(&with_byte(4, 2)), wrong_form);
+    // Form 2 has creases before the points.
+    assert_eq!(refusal_of(&with_byte(3, 2)), Some(Refusal::new(11, 36)));
     for h in [0, 1, 2, 4, 5] {
         assert_eq!(refusal_of(&with_byte(5, h)), Some(Refusal::new(1, 0)));
     }
@@ -130,13 +137,17 @@ fn the_first_payload_in_order() {
         [&[0x10, 6, 0], &numbers[..]].concat()
     };
     let refused = |form, h, v| refusal_of(&first_field(form, h, v));
-    assert_eq!(refused(0, 0, 0), Some(Refusal::new(11, 0)));
-    assert_eq!(refused(1, 3_074, 2_049), Some(Refusal::new(1, 0)));
-    assert_eq!(refused(1, 3_075, 0), Some(Refusal::new(2, 0)));
-    assert_eq!(refused(1, 3_072, 2_049), Some(Refusal::new(2, 0)));
-    assert_eq!(refused(1, 65_535, 65_535), Some(Refusal::new(2, 0)));
-    assert_eq!(refused(1, 3_072, 2_048), Some(Refusal::new(10, 9)));
-    assert_eq!(refused(1, 3, 0), Some(Refusal::new(10, 9)));
+    assert_eq!(refused(0, 0, 0), wrong_form);
+    assert_eq!(refused(3, 4, 65_535), wrong_form);
+    assert_eq!(refused(257, 3_075, 3), wrong_form);
+    for form in [1, 2] {
+        assert_eq!(refused(form, 3_074, 2_049), Some(Refusal::new(1, 0)));
+        assert_eq!(refused(form, 3_075, 0), Some(Refusal::new(2, 0)));
+        assert_eq!(refused(form, 3_072, 2_049), Some(Refusal::new(2, 0)));
+        assert_eq!(refused(form, 65_535, 65_535), Some(Refusal::new(2, 0)));
+        assert_eq!(refused(form, 3_072, 2_048), Some(Refusal::new(10, 9)));
+        assert_eq!(refused(form, 3, 0), Some(Refusal::new(10, 9)));
+    }
 }
 
 #[test]
@@ -149,7 +160,7 @@ fn a_file_without_vertices_is_read() {
         &[0x30, 0, 0, 0x7F, 0, 0],
     ]
     .concat();
-    let (counts, tables) = read_into(&file, [3, 3, 3, 0]).expect("read");
+    let (counts, tables) = read_into(&file, [3, 3, 3, 0, 0]).expect("read");
     assert_eq!((counts.halfedges, counts.vertices), (3, 0));
     assert_eq!(tables.twin, [1, 2, 3]);
     assert_eq!(tables.vert, [4, 5, 6]);
@@ -163,7 +174,7 @@ fn only_the_twin_payload_knows_the_marker() {
         file[head + 3..head + 9].copy_from_slice(&[255, 255, 254, 255, 0, 128]);
     }
     file[39..43].copy_from_slice(&[0, 0, 0, 128]);
-    let cage = read_cage(&file).expect("read");
+    let cage = read_cage(&file).expect("read").cage;
     assert_eq!(cage.twin, [MARKER, 65_534, 32_768]);
     assert_eq!(cage.vert, [65_535, 65_534, 32_768]);
     assert_eq!(cage.edge, [65_535, 65_534, 32_768]);
@@ -173,7 +184,7 @@ fn only_the_twin_payload_knows_the_marker() {
 #[test]
 fn room_comes_last_and_cells_past_it_are_untouched() {
     let file = file_of(&document_triangle());
-    let exact = [3, 3, 3, 9];
+    let exact = [3, 3, 3, 9, 0];
     for table in 0..4 {
         let mut short = exact;
         short[table] -= 1;
@@ -183,7 +194,7 @@ fn room_comes_last_and_cells_past_it_are_untouched() {
         let extra = Some(Refusal::new(12, 78));
         assert_eq!(read_into(&longer, short).err(), extra);
     }
-    let (_, tables) = read_into(&file, [4, 5, 6, 13]).expect("read");
+    let (_, tables) = read_into(&file, [4, 5, 6, 13, 7]).expect("read");
     let before = lendable([4, 5, 6, 13, 0]);
     assert_eq!(tables.twin[3..], before.twin[3..]);
     assert_eq!(tables.vert[3..], before.vert[3..]);
@@ -203,8 +214,20 @@ fn drawn_bytes_are_answered() {
             bytes[offset] = draw.number() as u8;
         }
         bytes.truncate(draw.between(70..=78) as usize);
-        if let Ok(cage) = read_cage(&bytes) {
-            assert_eq!((cage.halfedge_count(), cage.vertex_count()), (3, 3));
+        if let Ok(read) = read_cage(&bytes) {
+            let counts = (read.cage.halfedge_count(), read.cage.vertex_count());
+            assert_eq!((read.form, counts), (Form::One, (3, 3)));
         }
     }
+}
+
+/// 24 bytes of heads and of the first payload, and form 2's two fields more.
+#[test]
+fn the_longest_files() {
+    assert_eq!(LONGEST_FORM_1, 24 + 6 * 3_072 + 12 * 2_048);
+    assert_eq!(LONGEST_FORM_2, LONGEST_FORM_1 + 3 + 3_072 + 4);
+    let lengths = accepted_cages()
+        .into_iter()
+        .map(|entry| file_of(&entry.cage).len());
+    assert_eq!(lengths.max(), Some(LONGEST_FORM_1));
 }

@@ -1,10 +1,15 @@
 //! Document 01, "The level lister", with the third number that document 02, §6
-//! gives its room line.
+//! gives its room line, for files of both forms of its §7.
 
 mod common;
 
-use common::{document_pillow, document_triangle, file_of, levels, small_accepted};
+use common::{
+    creased_pair, document_pillow, document_triangle, file_of, form_2_file_of, levels,
+    small_accepted, WEIGHTS,
+};
 use second::lister::list_levels;
+use second::questions::files::form_2_file;
+use second::weight::Weight;
 
 const TRIANGLE_LINES: &str = "\
 0 3 3 1 3 3
@@ -20,6 +25,18 @@ room 16383 2928 8382
 #[test]
 fn the_triangle_is_listed_as_printed() {
     assert_eq!(list_levels(&file_of(&document_triangle())), TRIANGLE_LINES);
+}
+
+/// The levels have the same counts, whatever the creases and the weight.
+#[test]
+fn both_forms_are_listed_alike() {
+    for entry in small_accepted() {
+        let listed = list_levels(&file_of(&entry.cage));
+        for weight in WEIGHTS {
+            let file = form_2_file_of(&entry.cage, weight);
+            assert_eq!(list_levels(&file), listed, "{}", entry.name);
+        }
+    }
 }
 
 /// The lines say what the tables of the levels hold.
@@ -57,4 +74,23 @@ fn refusals_are_one_line() {
     let mut far_point = file;
     far_point[39 + 4 * 5 + 3] = 0x7F;
     assert_eq!(list_levels(&far_point), "refused 8 5\n");
+}
+
+#[test]
+fn refusals_of_form_2_are_one_line() {
+    let listed = |cage| list_levels(&form_2_file(&cage, Weight::Short));
+    assert_eq!(listed(creased_pair(10)).lines().count(), 8);
+    assert_eq!(listed(creased_pair(11)), "refused 15 1\n");
+    let mut border = creased_pair(0);
+    border.creases[4] = 1;
+    assert_eq!(listed(border), "refused 15 4\n");
+    let mut file = form_2_file_of(&document_triangle(), Weight::Paper);
+    assert_eq!(list_levels(&file), TRIANGLE_LINES);
+    assert_eq!(list_levels(&file[..87]), "refused 10 85\n");
+    file[84] = 2;
+    assert_eq!(list_levels(&file), "refused 11 81\n");
+    file[12..14].fill(0);
+    assert_eq!(list_levels(&file), "refused 3 0\n");
+    file[3] = 3;
+    assert_eq!(list_levels(&file), "refused 11 0\n");
 }

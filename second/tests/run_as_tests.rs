@@ -92,7 +92,8 @@ fn the_file_of_the_triangle() {
     let file = file_of(&document_triangle());
     assert_eq!(file.len(), 78);
     assert_eq!(file[..9], [0x10, 6, 0, 1, 0, 3, 0, 3, 0]);
-    assert_eq!(read_cage(&file), Ok(document_triangle()));
+    let read = read_cage(&file).map(|read| read.cage);
+    assert_eq!(read, Ok(document_triangle()));
     assert_eq!(read_cage(&file[..77]), Err(Refusal::new(10, 75)));
     let longer = [&file[..], &[0]].concat();
     assert_eq!(read_cage(&longer), Err(Refusal::new(12, 78)));

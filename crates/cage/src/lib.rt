@@ -7,7 +7,7 @@ ghost use Rattle.laws.specs.Below.{any};
 ghost use Rattle.halfedges.specs.Refusals.{POINT, told, givenAt, first};
 ghost use Rattle.tables.specs.Tables.{tables};
 ghost use Rattle.tables.specs.Check.{checked};
-ghost use Rattle.points.specs.Operations.{unshaped as Operations·unshaped, most-coordinate, outOfRange, cageChecks, refineChecks, checkCage, checkCreased};
+ghost use Rattle.points.specs.Operations.{unshaped as Operations·unshaped, most-coordinate, outOfRange, cageChecks, refineChecks, checkCreased};
 use creases::check as creased;
 use halfedges::answer::Answer;
 use points::rules::LEAST_COORDINATE;
@@ -17,15 +17,7 @@ use tables::check;
 use tables::check::Checked;
 use valences::check_valences;
 
-// The cage check of a cage without creases, which has no depth.
-pub fn check_cage(twin: &[u32], vert: &[u32], edge: &[u32], points: &[i32]) -> Checked
-    ensures { λ r. ⌜ checked r ≡ checkCage (tables (now (twin .entry)) (now (vert .entry)) (now (edge .entry))) (now (points .entry)) ⌝ }
-{
-    let answer = verdict(twin, vert, edge, points);
-    check::answered(answer, twin, points.len() / 3)
-}
-
-// Checks 1 to 8 of any tables without creases. No weight is chosen here, so none for which 14 would be given.
+// Checks 1 to 8 of any tables without creases, as writing form 1 has them. No weight is chosen here, so none for which 14 would be given.
 pub fn verdict(twin: &[u32], vert: &[u32], edge: &[u32], points: &[i32]) -> Answer
     ensures { λ r.
         ⌜ told r ≡ first (cageChecks (tables (now (twin .entry)) (now (vert .entry)) (now (edge .entry)))
@@ -54,8 +46,7 @@ pub fn check_creased(
         (now (creases .entry)) (now (points .entry)) ⌝ }
 {
     let told = check_for_refining(twin, vert, edge, points, creases, 0, Weight::Short);
-    let vertices = points.len() / 3;
-    check::answered(told, twin, vertices)
+    check::answered(told, twin, points.len() / 3)
 }
 
 // Checks 1 to 8 and 15 of any tables, where the depth's limit counts too, and 14 by the weight chosen.

@@ -26,8 +26,14 @@ pub enum Question<'a> {
     Refine(&'a Cage, u64, Weight, [usize; 5]),
     /// Reading a file into tables of these lengths.
     Read(&'a [u8], [usize; 5]),
-    /// Writing into a buffer of this length.
+    /// Writing form 1 into a buffer of this length.
     Write(&'a Cage, usize),
+    /// Writing form 2 with a weight, into a buffer of this length.
+    WriteForm2(&'a Cage, Weight, usize),
+    /// Moving a file to form 2, into a buffer of this length.
+    ToForm2(&'a [u8], usize),
+    /// Moving a file to form 1, into a buffer of this length.
+    ToForm1(&'a [u8], usize),
     /// Building from a VERT table and points, into a TWIN and an EDGE table of
     /// these lengths.
     Build(&'a [u32], &'a [i32], [usize; 2]),
@@ -38,34 +44,52 @@ pub enum Question<'a> {
 impl Question<'_> {
     /// Lends marked tables or a marked buffer, and asks.
     pub fn put_to(&self, asked: &dyn Operations) -> Outcome {
-        let mut left = Outcome::default();
-        left.answer = match *self {
+        let (mut tables, mut file) = (
+            marked_tables(self.table_lengths()),
+            marked_file(self.file_length()),
+        );
+        let answer = match *self {
             Question::Check(cage) => asked.check(cage),
             Question::Edges(twin) => asked.edges(twin),
             Question::Counts(numbers) => asked.counts(numbers),
             Question::Corners(vert, triangle) => asked.corners(vert, triangle),
-            Question::Refine(cage, depth, weight, lengths) => {
-                left.tables = marked_tables(lengths);
-                asked.refine(cage, depth, weight, &mut left.tables)
+            Question::Refine(cage, depth, weight, _) => {
+                asked.refine(cage, depth, weight, &mut tables)
             }
-            Question::Read(file, lengths) => {
-                left.tables = marked_tables(lengths);
-                asked.read(file, &mut left.tables)
-            }
-            Question::Write(cage, length) => {
-                left.file = marked_file(length);
-                asked.write(cage, &mut left.file)
-            }
-            Question::Build(vert, points, [twin, edge]) => {
-                left.tables = marked_tables([twin, 0, edge, 0, 0]);
-                asked.build(vert, points, &mut left.tables)
-            }
-            Question::WriteStl(vert, points, length) => {
-                left.file = marked_file(length);
-                asked.write_stl(vert, points, &mut left.file)
-            }
+            Question::Read(bytes, _) => asked.read(bytes, &mut tables),
+            Question::Write(cage, _) => asked.write(cage, &mut file),
+            Question::WriteForm2(cage, weight, _) => asked.write_form_2(cage, weight, &mut file),
+            Question::ToForm2(bytes, _) => asked.to_form_2(bytes, &mut file),
+            Question::ToForm1(bytes, _) => asked.to_form_1(bytes, &mut file),
+            Question::Build(vert, points, _) => asked.build(vert, points, &mut tables),
+            Question::WriteStl(vert, points, _) => asked.write_stl(vert, points, &mut file),
         };
-        left
+        Outcome {
+            answer,
+            tables,
+            file,
+        }
+    }
+
+    /// The lengths of the tables that are lent.
+    fn table_lengths(&self) -> [usize; 5] {
+        match *self {
+            Question::Refine(.., lengths) | Question::Read(_, lengths) => lengths,
+            Question::Build(.., [twin, edge]) => [twin, 0, edge, 0, 0],
+            _ => [0; 5],
+        }
+    }
+
+    /// The length of the buffer that is lent.
+    fn file_length(&self) -> usize {
+        match *self {
+            Question::Write(_, length)
+            | Question::WriteForm2(.., length)
+            | Question::ToForm2(_, length)
+            | Question::ToForm1(_, length)
+            | Question::WriteStl(.., length) => length,
+            _ => 0,
+        }
     }
 
     /// The question in a few words, its tables by their lengths.
@@ -85,6 +109,11 @@ impl Question<'_> {
             }
             Question::Read(file, lent) => format!("reading of {} bytes into {lent:?}", file.len()),
             Question::Write(cage, lent) => format!("writing of {} into {lent}", lengths(cage)),
+            Question::WriteForm2(cage, weight, lent) => {
+                format!("form 2 of {} with {weight:?} into {lent}", lengths(cage))
+            }
+            Question::ToForm2(file, lent) => format!("{} bytes to form 2 into {lent}", file.len()),
+            Question::ToForm1(file, lent) => format!("{} bytes to form 1 into {lent}", file.len()),
             Question::Build(vert, points, lent) => {
                 let (h, coordinates) = (vert.len(), points.len());
                 format!("building of {h} and {coordinates} coordinates into {lent:?}")

@@ -7,13 +7,16 @@ use std::path::{Path, PathBuf};
 use std::process::{Command, Output};
 use std::sync::LazyLock;
 
-use compare::{accepted, file_of, named, repository, run};
+use compare::{accepted, creased, files_of, named, repository, run};
 use second::counter::count_levels;
+use second::file::{to_form_1, to_form_2, LONGEST_FORM_2};
 use second::lister::level_lines;
 use second::questions::counts;
+use second::questions::files::{damaged, form_1_file, form_2_file};
 use second::refusal::Refusal;
 use second::stl::level_0_stl;
 use second::suite::SuiteCage;
+use second::weight::Weight;
 
 /// A folder of this test's own, empty, elsewhere than the repository.
 fn folder(name: &str) -> PathBuf {
@@ -23,10 +26,14 @@ fn folder(name: &str) -> PathBuf {
     folder
 }
 
+/// The commands that take a file.
+const TAKING_FILES: [&str; 4] = ["list", "stl", "form-2", "form-1"];
+
 /// The command, with each of its programs proved: a first run says more.
 static COMMAND: LazyLock<PathBuf> = LazyLock::new(|| {
     let command = repository().join("ryebadger");
-    for words in [&["list"][..], &["stl"], &["counts", "12", "6", "4", "2"]] {
+    let takes_file = TAKING_FILES.iter().map(std::slice::from_ref);
+    for words in takes_file.chain([&["counts", "12", "6", "4", "2"][..]]) {
         let status = run(Command::new(&command).args(words), b"").status.code();
         assert!(status < Some(2), "{words:?}");
     }
@@ -86,14 +93,36 @@ fn assert_writes(output: &Output, judged: Result<Vec<u8>, Refusal>, name: &str) 
     }
 }
 
-fn assert_listed(file: &[u8], name: &str) {
-    let output = run(ryebadger().arg("list"), file);
-    assert_answers(&output, level_lines(file), name);
+/// The second program's file in the form that the word names.
+fn moved(word: &str, file: &[u8]) -> Result<Vec<u8>, Refusal> {
+    let mut lent = vec![0; LONGEST_FORM_2];
+    let length = match word {
+        "form-2" => to_form_2(file, &mut lent),
+        _ => to_form_1(file, &mut lent),
+    }?;
+    lent.truncate(length as usize);
+    Ok(lent)
 }
 
-fn assert_stl(file: &[u8], name: &str) {
-    let output = run(ryebadger().arg("stl"), file);
-    assert_writes(&output, level_0_stl(file), name);
+/// What the command of this word makes of a file is the second program's. The line
+/// of a refusal is no file: the moves put it on standard error.
+fn assert_taken(word: &str, output: &Output, file: &[u8], name: &str) {
+    match word {
+        "list" => assert_answers(output, level_lines(file), name),
+        "stl" => assert_writes(output, level_0_stl(file), name),
+        _ => match moved(word, file) {
+            Err(refusal) => {
+                let expected = (1, String::new(), refusal.line());
+                assert_eq!(told(output), expected, "{name}");
+            }
+            written => assert_writes(output, written, name),
+        },
+    }
+}
+
+fn assert_takes(word: &str, file: &[u8], name: &str) {
+    let output = run(ryebadger().arg(word), file);
+    assert_taken(word, &output, file, name);
 }
 
 fn assert_counted(words: &[&str]) {
@@ -104,14 +133,35 @@ fn assert_counted(words: &[&str]) {
     }
 }
 
-/// A shell's words with the command as `$0`, in a folder of its own with the
-/// file of the triangle.
-fn in_shell(script: &str, name: &str) -> Output {
+/// The triangle's file, in the form that a command takes which takes one form
+/// alone.
+fn triangle_for(word: &str) -> Vec<u8> {
+    let cage = named("triangle");
+    match word {
+        "form-1" => form_2_file(&cage, Weight::Short),
+        _ => form_1_file(&cage),
+    }
+}
+
+/// A shell's words with the command as `$0`, in a folder of its own with a file of
+/// the triangle.
+fn in_shell_with(triangle: &[u8], script: &str, name: &str) -> Output {
     let folder = folder(name);
-    fs::write(folder.join("triangle.cage"), file_of(&named("triangle"))).expect("written");
+    fs::write(folder.join("triangle.cage"), triangle).expect("written");
     let mut shell = Command::new("sh");
     shell.arg("-c").arg(script).arg(&*COMMAND);
     run(shell.current_dir(folder), b"")
+}
+
+fn in_shell(script: &str, name: &str) -> Output {
+    in_shell_with(&triangle_for("list"), script, name)
+}
+
+/// A shell's words that have the command take a file, with another command in place
+/// of `list`.
+fn in_shell_for(word: &str, script: &str, name: &str) -> Output {
+    let script = script.replace(" list", &format!(" {word}"));
+    in_shell_with(&triangle_for(word), &script, &format!("{name}-{word}"))
 }
 
 /// Some accepted cages, the first of as many halfedges as a cage may have.
@@ -120,29 +170,46 @@ fn accepted_to_try() -> Vec<SuiteCage> {
     let largest = entries.iter().max_by_key(|entry| entry.cage.twin.len());
     let largest = largest.expect("a suite");
     assert_eq!(largest.cage.twin.len(), 3_072);
-    let some = entries.iter().step_by(8);
+    let some = entries.iter().step_by(12);
     [largest].into_iter().chain(some).cloned().collect()
 }
 
+/// The largest by each command in either form, the others by one command for each of
+/// their files in turn.
 #[test]
-fn accepted_cages_are_listed() {
-    for entry in accepted_to_try() {
-        assert_listed(&file_of(&entry.cage), &entry.name);
+fn accepted_cages_are_taken() {
+    for (turn, entry) in accepted_to_try().iter().enumerate() {
+        for (at, (_, file)) in files_of(&entry.cage).iter().enumerate() {
+            for (number, word) in TAKING_FILES.into_iter().enumerate() {
+                if turn == 0 || (turn + at) % TAKING_FILES.len() == number {
+                    assert_takes(word, file, &entry.name);
+                }
+            }
+        }
     }
 }
 
+/// And both ways, where a file has them: what one puts out, the other takes.
 #[test]
-fn accepted_cages_are_written_as_stl() {
-    for entry in accepted_to_try() {
-        let file = file_of(&entry.cage);
-        assert!(level_0_stl(&file).is_ok(), "{}", entry.name);
-        assert_stl(&file, &entry.name);
+fn accepted_cages_are_moved_there_and_back() {
+    for name in [
+        "triangle",
+        "pillow",
+        "cushion",
+        "most-halfedges-and-vertices",
+    ] {
+        let old = form_1_file(&named(name));
+        let new = run(ryebadger().arg("form-2"), &old).stdout;
+        assert!(new == form_2_file(&named(name), Weight::Short), "{name}");
+        let back = run(ryebadger().arg("form-1"), &new);
+        assert_eq!(ended(&back), (0, String::new()), "{name}");
+        assert!(back.stdout == old, "{name}");
     }
 }
 
 /// Files that are refused, each with what was done to it.
 fn refused_files() -> Vec<(&'static str, Vec<u8>)> {
-    let triangle = file_of(&named("triangle"));
+    let triangle = form_1_file(&named("triangle"));
     let cut = |length: usize| ("cut", triangle[..length].to_vec());
     let mut files = [0, 1, 8, 9, 38, 77].map(cut).to_vec();
     files.push(("longer", [&triangle[..], &[0]].concat()));
@@ -153,14 +220,15 @@ fn refused_files() -> Vec<(&'static str, Vec<u8>)> {
         changed[offset] = byte;
         files.push(("changed", changed));
     }
-    let longest = file_of(&named("most-halfedges-and-vertices"));
-    let last = longest.len() - 1;
-    files.push(("longest, cut", longest[..last].to_vec()));
-    files.push(("longest and a byte", [&longest[..], &[0]].concat()));
-    // The last byte of the last coordinate.
-    let mut changed = longest;
-    changed[last - 3] = 0x7F;
-    files.push(("longest, changed", changed));
+    for (_, longest) in files_of(&named("most-halfedges-and-vertices")) {
+        let last = longest.len() - 1;
+        files.push(("longest, cut", longest[..last].to_vec()));
+        files.push(("longest and a byte", [&longest[..], &[0]].concat()));
+        // EDGE(0), after the first field, and TWIN and VERT of 3,072 halfedges.
+        let mut changed = longest;
+        changed[9 + 2 * (3 + 6_144) + 4] = 0x7F;
+        files.push(("longest, changed", changed));
+    }
     files
 }
 
@@ -168,8 +236,40 @@ fn refused_files() -> Vec<(&'static str, Vec<u8>)> {
 fn refused_files_are_told() {
     for (name, file) in refused_files() {
         assert!(level_lines(&file).is_err(), "{name}");
-        assert_listed(&file, name);
-        assert_stl(&file, name);
+        for word in TAKING_FILES {
+            assert_takes(word, &file, name);
+        }
+    }
+}
+
+/// Some of the second program's damaged files, which are of either form.
+#[test]
+fn damaged_files_are_told() {
+    let files = damaged();
+    let step = files.len() / 25;
+    for file in files.into_iter().step_by(step) {
+        for word in TAKING_FILES {
+            assert_takes(word, &file.bytes, &file.name);
+        }
+    }
+}
+
+/// With a crease, or the paper's weight. It is listed and written as STL all the
+/// same.
+#[test]
+fn a_file_that_has_no_old_form_is_told() {
+    let pillow = named("pillow");
+    let seamed = creased(&pillow, |edge| edge as u8);
+    for file in [
+        form_2_file(&seamed, Weight::Short),
+        form_2_file(&pillow, Weight::Paper),
+    ] {
+        for word in TAKING_FILES {
+            assert_takes(word, &file, "no old form");
+        }
+        let output = run(ryebadger().arg("form-1"), &file);
+        let expected = (1, String::new(), "refused 16 0\n".to_string());
+        assert_eq!(told(&output), expected);
     }
 }
 
@@ -216,7 +316,7 @@ fn what_is_no_count_question_is_told() {
 
 #[test]
 fn other_words_are_told() {
-    let wrong: [(&[&str], &str); 11] = [
+    let wrong: [(&[&str], &str); 15] = [
         (&[], "no command"),
         (&["corners", "0", "1", "2", "3"], "corners"),
         (&["lists"], "lists"),
@@ -228,6 +328,10 @@ fn other_words_are_told() {
         (&["counts", "12", "6", "4", "2", "0"], "H, E, V and DEPTH"),
         (&["list", "one", "two"], "one file"),
         (&["stl", "one", "two"], "one file"),
+        (&["form-2", "one", "two"], "form-2 takes one file"),
+        (&["form-1", "one", "two"], "form-1 takes one file"),
+        (&["form_1"], "form_1"),
+        (&["form-3"], "form-3"),
     ];
     for (words, part) in wrong {
         assert_fails(&run(ryebadger().args(words), b""), 2, part);
@@ -236,12 +340,14 @@ fn other_words_are_told() {
 
 #[test]
 fn help_is_an_answer() {
-    let wanted: [&[&str]; 6] = [
+    let wanted: [&[&str]; 8] = [
         &["--help"],
         &["-h"],
         &["help"],
         &["list", "--help"],
         &["stl", "--help"],
+        &["form-2", "--help"],
+        &["form-1", "--help"],
         &["counts", "--help"],
     ];
     for words in wanted {
@@ -265,20 +371,11 @@ const PIPE_THAT_NOBODY_READS: &str = "
     }
     exit $(cat status)";
 
-/// The same words of a shell for `stl`, which takes a file as `list` does.
-fn for_stl(script: &str) -> String {
-    script.replace(" list", " stl")
-}
-
 #[test]
 fn a_stream_that_fails_is_told() {
     let failing = [
         (
             "\"$0\" list triangle.cage >/dev/full",
-            "output cannot be written",
-        ),
-        (
-            "head -c 77 triangle.cage | \"$0\" list >/dev/full",
             "output cannot be written",
         ),
         ("\"$0\" list triangle.cage >&-", "output is closed"),
@@ -293,9 +390,10 @@ fn a_stream_that_fails_is_told() {
         (PIPE_THAT_NOBODY_READS, "output cannot be written"),
     ];
     for (at, (script, part)) in failing.into_iter().enumerate() {
-        assert_fails(&in_shell(script, &format!("failing-{at}")), 3, part);
-        let script = for_stl(script);
-        assert_fails(&in_shell(&script, &format!("failing-stl-{at}")), 3, part);
+        for word in TAKING_FILES {
+            let output = in_shell_for(word, script, &format!("failing-{at}"));
+            assert_fails(&output, 3, part);
+        }
     }
     for (script, part) in [
         (
@@ -308,36 +406,66 @@ fn a_stream_that_fails_is_told() {
     }
 }
 
-/// Files of two blocks at most stand for a disk that fills; the cushion's STL
-/// is longer.
+/// The line of a refusal goes to standard output, and fails there; that of the
+/// moves does not.
+#[test]
+fn a_refusal_goes_to_its_own_stream() {
+    let script = "head -c 77 triangle.cage | \"$0\" list >/dev/full";
+    for word in ["list", "stl"] {
+        let output = in_shell_for(word, script, "refused-full");
+        assert_fails(&output, 3, "output cannot be written");
+    }
+    for (word, line) in [("form-2", "refused 10 75\n"), ("form-1", "refused 10 42\n")] {
+        let told_line = (1, String::new(), line.to_string());
+        let output = in_shell_for(word, script, "refused-full");
+        assert_eq!(told(&output), told_line);
+        let script = script.replace(">/dev/full", "2>&-");
+        let output = in_shell_for(word, &script, "refused-unheard");
+        assert_eq!(told(&output), (1, String::new(), String::new()));
+    }
+}
+
+/// Files of two blocks at most stand for a disk that fills; the cushion's STL and
+/// its file are longer.
 const DISK_THAT_FILLS: &str = "
     trap '' XFSZ
-    ulimit -f 2 && \"$0\" stl \"${0%/*}/cages/cushion.cage\" >level.stl";
+    ulimit -f 2 && \"$0\" list triangle.cage >written";
 
 #[test]
 fn a_disk_that_fills_midway_is_told() {
-    let output = in_shell(DISK_THAT_FILLS, "filling");
-    assert_fails(&output, 3, "output cannot be written");
-    let folder = Path::new(env!("CARGO_TARGET_TMPDIR")).join("filling");
-    let written = fs::read(folder.join("level.stl")).expect("a file");
-    let whole = level_0_stl(&file_of(&named("cushion"))).expect("accepted");
-    assert!((1_000..whole.len()).contains(&written.len()));
-    assert!(whole.starts_with(&written));
+    let cushion = form_1_file(&named("cushion"));
+    for (word, whole) in [
+        ("stl", level_0_stl(&cushion)),
+        ("form-2", moved("form-2", &cushion)),
+    ] {
+        let name = format!("filling-{word}");
+        let script = DISK_THAT_FILLS.replace(" list", &format!(" {word}"));
+        let output = in_shell_with(&cushion, &script, &name);
+        assert_fails(&output, 3, "output cannot be written");
+        let folder = Path::new(env!("CARGO_TARGET_TMPDIR")).join(name);
+        let written = fs::read(folder.join("written")).expect("a file");
+        let whole = whole.expect("accepted");
+        assert!((1_000..whole.len()).contains(&written.len()), "{word}");
+        assert!(whole.starts_with(&written), "{word}");
+    }
 }
 
 /// Lines may go to a terminal, and bytes that are no text may not. What opens
 /// `/dev/ptmx` has one.
 #[test]
-fn a_terminal_gets_no_stl() {
-    let output = in_shell("\"$0\" stl triangle.cage >/dev/ptmx", "terminal");
-    assert_fails(&output, 2, "bytes, which are no text");
-    let output = in_shell("\"$0\" list triangle.cage >/dev/ptmx", "terminal");
+fn a_terminal_gets_no_bytes() {
+    let script = "\"$0\" list triangle.cage >/dev/ptmx";
+    for word in ["stl", "form-2", "form-1"] {
+        let output = in_shell_for(word, script, "terminal");
+        let part = format!("{word} puts out bytes, which are no text");
+        assert_fails(&output, 2, &part);
+    }
+    let output = in_shell(script, "terminal");
     assert_eq!(told(&output), (0, String::new(), String::new()));
 }
 
 #[test]
 fn a_file_is_taken_from_anywhere() {
-    let triangle = file_of(&named("triangle"));
     let scripts = [
         "\"$0\" list triangle.cage",
         "\"$0\" list <triangle.cage",
@@ -352,10 +480,10 @@ fn a_file_is_taken_from_anywhere() {
         "exec 3<triangle.cage 4<triangle.cage && \"$0\" list triangle.cage",
     ];
     for (at, script) in scripts.into_iter().enumerate() {
-        let output = in_shell(script, &format!("listed-{at}"));
-        assert_answers(&output, level_lines(&triangle), script);
-        let output = in_shell(&for_stl(script), &format!("stl-{at}"));
-        assert_writes(&output, level_0_stl(&triangle), script);
+        for word in TAKING_FILES {
+            let output = in_shell_for(word, script, &format!("taken-{at}"));
+            assert_taken(word, &output, &triangle_for(word), script);
+        }
     }
 }
 

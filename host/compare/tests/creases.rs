@@ -3,14 +3,15 @@
 //! others, and a cage that is handed over without creases.
 
 use compare::{
-    accepted, assert_alike, chosen, creased, file_of, handed, lent, marked_tables, named, owned,
-    room_at, verdict_with, vertices_of, Outcome, Question, SecondProgram, WEIGHTS,
+    accepted, assert_alike, chosen, creased, handed, lent, marked_tables, named, owned, room_at,
+    verdict_with, vertices_of, Outcome, Question, SecondProgram, WEIGHTS,
 };
 use ryebadger::Refined;
 use second::cage::{Cage, MARKER};
 use second::creases::CREASE_LIMIT;
 use second::draw::Draw;
 use second::questions;
+use second::questions::files::form_1_file;
 use second::suite::{suite, SuiteCage};
 use second::weight::Weight;
 
@@ -464,7 +465,7 @@ fn creases_do_not_excuse_too_many_corners() {
     }
 }
 
-/// Reading, writing, building and STL take no creases.
+/// Form 1, building and STL take no creases.
 #[test]
 fn no_other_operation_refuses_creases() {
     for creases in [vec![], vec![11; 3], vec![255; 1_000]] {
@@ -472,10 +473,11 @@ fn no_other_operation_refuses_creases() {
             creases,
             ..named("pillow")
         };
-        let file = file_of(&cage);
+        let file = form_1_file(&cage);
         for question in [
             Question::Write(&cage, file.len()),
             Question::Read(&file, [6, 6, 6, 9, 0]),
+            Question::ToForm2(&file, 200),
             Question::Build(&cage.vert, &cage.points, [6; 2]),
             Question::WriteStl(&cage.vert, &cage.points, 84 + 50 * 2),
         ] {

@@ -2,9 +2,10 @@
 //! is wrong is said.
 
 use compare::{
-    assert_same, creased, file_of, first_difference, named, room_at, stl_length, Archive,
-    Difference, Outcome, Question, SecondProgram,
+    assert_same, creased, first_difference, named, room_at, stl_length, Archive, Difference,
+    Outcome, Question, SecondProgram,
 };
+use second::questions::files::{form_1_file, form_2_file};
 use second::weight::Weight;
 
 /// The outcome with each of its cells changed in turn, and the part and cell
@@ -37,7 +38,8 @@ fn changed_everywhere(outcome: &Outcome) -> Vec<(&'static str, usize, Outcome)> 
 fn one_wrong_cell_anywhere_is_reported_there() {
     let (cage, many) = (named("pillow"), named("disc-33"));
     let (seam, sharper) = (creased(&cage, |_| 2), creased(&cage, |_| 11));
-    let file = file_of(&cage);
+    let file = form_1_file(&cage);
+    let [plain_file, seam_file] = [&cage, &seam].map(|cage| form_2_file(cage, Weight::Short));
     let room = room_at(&cage, 1).map(|length| length + 3);
     let mut short = room_at(&cage, 1);
     short[4] -= 1;
@@ -59,6 +61,14 @@ fn one_wrong_cell_anywhere_is_reported_there() {
         Question::Read(&file[1..], room),
         Question::Write(&cage, file.len() + 3),
         Question::Write(&cage, file.len() - 1),
+        Question::Read(&seam_file, room),
+        Question::Read(&seam_file, [6, 6, 6, 9, 2]),
+        Question::WriteForm2(&seam, Weight::Paper, seam_file.len() + 3),
+        Question::WriteForm2(&sharper, Weight::Short, seam_file.len()),
+        Question::ToForm2(&file, seam_file.len() + 3),
+        Question::ToForm2(&seam_file, seam_file.len()),
+        Question::ToForm1(&plain_file, file.len() + 3),
+        Question::ToForm1(&seam_file, file.len()),
         Question::Build(&cage.vert, &cage.points, [room[0], room[2]]),
         Question::Build(&cage.vert, &cage.points, [6, 5]),
         Question::WriteStl(&cage.vert, &cage.points, stl + 3),

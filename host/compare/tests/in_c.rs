@@ -6,12 +6,15 @@ use std::process::{Command, Output};
 use std::sync::LazyLock;
 
 use compare::{
-    creased, file_of, named, repository, room_at, run, stl_length, Question, SecondProgram, PLACES,
+    creased, files_of, named, repository, room_at, run, stl_length, Outcome, Question,
+    SecondProgram, PLACES,
 };
 use second::build::build;
 use second::cage::{Cage, COORDINATE_LIMIT, DEPTH_LIMIT, HALFEDGE_LIMIT, MARKER, VERTEX_LIMIT};
 use second::creases::CREASE_LIMIT;
+use second::file::{read_cage, Form, LONGEST_FORM_1, LONGEST_FORM_2};
 use second::lister::list_levels;
+use second::questions::files::{form_1_file, form_2_file};
 use second::stl::VERT_LIMIT;
 use second::suite::suite;
 use second::weight::{Weight, VALENCES};
@@ -34,13 +37,13 @@ fn assert_compiles(command: &mut Command, source: &[u8]) {
     assert!(output.status.success() && said.is_empty(), "{said}");
 }
 
-/// An example of this name, linked with the archive that this test is linked
-/// with.
-fn compiled(name: &str) -> PathBuf {
+/// A program of this name whose source is in this folder, linked with the archive
+/// that this test is linked with.
+fn compiled(folder: &str, name: &str) -> PathBuf {
     let made_here = || repository().join("target/host/libryebadger.a").into();
     let archive = std::env::var_os("RYEBADGER_ARCHIVE").unwrap_or_else(made_here);
     let program = Path::new(env!("CARGO_TARGET_TMPDIR")).join(name);
-    let source = repository().join(format!("host/{name}.c"));
+    let source = repository().join(format!("{folder}/{name}.c"));
     let mut cc = compiler("CC", "cc");
     cc.args(["-std=c11", "-O2"]).arg(source).arg(archive);
     assert_compiles(cc.arg("-o").arg(&program), &[]);
@@ -48,8 +51,8 @@ fn compiled(name: &str) -> PathBuf {
 }
 
 /// Each compiled once.
-static EXAMPLE: LazyLock<PathBuf> = LazyLock::new(|| compiled("example"));
-static TRIANGLES: LazyLock<PathBuf> = LazyLock::new(|| compiled("triangles"));
+static EXAMPLE: LazyLock<PathBuf> = LazyLock::new(|| compiled("host", "example"));
+static TRIANGLES: LazyLock<PathBuf> = LazyLock::new(|| compiled("host", "triangles"));
 
 /// The example's words for the weights.
 const WORDS: [(&str, Weight); 2] = [("short", Weight::Short), ("paper", Weight::Paper)];
@@ -83,7 +86,11 @@ fn the_header_in_c_and_in_cxx() {
         ("LEVELS", DEPTH_LIMIT + 1),
         ("MOST_CREASE", CREASE_LIMIT.into()),
         ("MOST_COORDINATE", COORDINATE_LIMIT as u64),
-        ("LONGEST_FILE", 24 + 6 * HALFEDGE_LIMIT + 12 * VERTEX_LIMIT),
+        ("FORM_1", 1),
+        ("FORM_2", 2),
+        ("LONGEST_FORM_1", LONGEST_FORM_1 as u64),
+        ("LONGEST_FORM_2", LONGEST_FORM_2 as u64),
+        ("LONGEST_FILE", LONGEST_FORM_1.max(LONGEST_FORM_2) as u64),
         ("LONGEST_TABLE", VERT_LIMIT as u64),
         ("STL_LENGTH(0)", 84),
         ("STL_LENGTH(1 + 1)", 184),
@@ -96,12 +103,19 @@ fn the_header_in_c_and_in_cxx() {
         ("EDGES_ANSWER", 1),
         ("AT_E_ROOM + 1", 26),
         ("COUNTS_ANSWER", 26),
+        ("AT_FILE_FORM", 2),
+        ("AT_FILE_H", 3),
+        ("AT_FILE_V", 4),
+        ("AT_FILE_E", 5),
+        ("AT_FILE_WEIGHT", 6),
+        ("READ_ANSWER", 7),
+        ("WRITE_ANSWER", 3),
     ];
     let tables = ["TWIN", "VERT", "EDGE", "POINTS", "CREASE"].map(|name| format!("{name}_TABLE"));
     let tables = tables.iter().map(String::as_str).zip(PLACES);
     let names = [
         "DONE", "SHAPE", "LIMIT", "TWIN", "VERTEX", "UNUSED", "EDGE", "FAN", "POINT", "ROOM",
-        "SHORT", "FIELD", "EXTRA", "DOUBLED", "VALENCE", "CREASE",
+        "SHORT", "FIELD", "EXTRA", "DOUBLED", "VALENCE", "CREASE", "NOT_OLD",
     ];
     let numbers = limits.into_iter().chain(tables);
     for (name, number) in numbers.chain(names.into_iter().zip(0..)) {
@@ -130,7 +144,7 @@ fn the_example_prints_the_levels_of_a_cage() {
     for name in ["triangle", "pillow", "cushion"] {
         let path = repository().join(format!("cages/{name}.cage"));
         // The lister has F and B too: level, H, E, F, V, B.
-        let listed = list_levels(&file_of(&named(name)));
+        let listed = list_levels(&form_1_file(&named(name)));
         let lines: Vec<String> = listed
             .lines()
             .map(|line| line.split(' ').collect::<Vec<_>>())
@@ -152,17 +166,24 @@ fn the_example_prints_the_levels_of_a_cage() {
 #[test]
 fn the_example_says_what_is_wrong() {
     let folder = Path::new(env!("CARGO_TARGET_TMPDIR"));
-    let triangle = file_of(&named("triangle"));
+    let triangle = form_1_file(&named("triangle"));
     let mut stray = triangle.clone();
     stray[21] = 7; // VERT(0)
     let longer = [&triangle[..], &[0]].concat();
-    let many = file_of(&named("disc-33"));
+    let many = form_1_file(&named("disc-33"));
+    let paper = form_2_file(&named("disc-33"), Weight::Paper);
+    let [mut itself, mut heavy] = [(); 2].map(|()| form_2_file(&named("triangle"), Weight::Short));
+    itself[12..14].copy_from_slice(&[0, 0]); // TWIN(0)
+    heavy[84] = 2;
     for (name, bytes, [depth, weight], status, line) in [
         ("stray", &stray[..], ["1", "short"], 1, "refused 4 0\n"),
         ("cut", &triangle[..77], ["1", "short"], 1, "refused 10 75\n"),
         ("longer", &longer, ["1", "short"], 1, "refused 12 78\n"),
         ("deep", &triangle, ["7", "paper"], 1, "refused 2 0\n"),
         ("many", &many, ["0", "paper"], 1, "refused 14 33\n"),
+        ("new", &paper, ["0", "file"], 1, "refused 14 33\n"),
+        ("twin", &itself, ["0", "file"], 1, "refused 3 0\n"),
+        ("weight", &heavy, ["0", "file"], 1, "refused 11 81\n"),
         (
             "no-number",
             &triangle,
@@ -182,7 +203,7 @@ fn the_example_says_what_is_wrong() {
     assert_eq!(nowhere.status.code(), Some(2));
 }
 
-const USAGE: &str = "example: usage: example FILE DEPTH short|paper [STL [EDGE=NUMBER ...]]\n";
+const USAGE: &str = "example: usage: example FILE DEPTH short|paper|file [STL [EDGE=NUMBER ...]]\n";
 
 /// Too few words, another one for the weight, or one that is no crease.
 #[test]
@@ -200,6 +221,7 @@ fn the_example_says_how_it_is_used() {
         &[triangle, "1", "Short"],
         &[triangle, "1", "shorter"],
         &[triangle, "1", "pape"],
+        &[triangle, "1", "files"],
         &[triangle, "paper", "1"],
         &[triangle, "1", "paper", "level.stl", "more"],
         &[triangle, "1", "paper", "level.stl", ""],
@@ -290,6 +312,50 @@ fn the_example_takes_creases() {
     }
 }
 
+/// Files of form 2, with each of the three words for the weight; and of form 1,
+/// which has no creases and the short weight.
+#[test]
+fn the_example_takes_either_form() {
+    let folder = Path::new(env!("CARGO_TARGET_TMPDIR"));
+    let (path, stl) = (folder.join("form"), folder.join("form.stl"));
+    for name in ["pillow", "cushion"] {
+        let (plain, seamed) = (named(name), creased(&named(name), |edge| edge as u8 % 4));
+        let [short, paper] = WORDS.map(|(_, weight)| form_2_file(&seamed, weight));
+        for (cage, file, own) in [
+            (&plain, &form_1_file(&seamed), Weight::Short),
+            (&seamed, &short, Weight::Short),
+            (&seamed, &paper, Weight::Paper),
+        ] {
+            std::fs::write(&path, file).expect("written");
+            for (word, weight) in WORDS.into_iter().chain([("file", own)]) {
+                let output = run_example_to_stl(&path, "3", word, &stl);
+                assert!(output.status.success(), "{name}, {word}");
+                let written = std::fs::read(&stl).expect("a file");
+                // Not assert_eq, which would print both files.
+                assert!(written == stl_at(cage, 3, weight), "{name}, {word}");
+            }
+        }
+    }
+}
+
+/// An edge that is named has its number, and every other the file's.
+#[test]
+fn the_example_changes_creases_of_the_file() {
+    let folder = Path::new(env!("CARGO_TARGET_TMPDIR"));
+    let (path, stl) = (folder.join("changed"), folder.join("changed.stl"));
+    let cage = creased(&named("pillow"), |edge| edge as u8 + 1);
+    std::fs::write(&path, form_2_file(&cage, Weight::Paper)).expect("written");
+    let words = ["0=0", "2=10"];
+    let output = run(example(&path, "4", "file").arg(&stl).args(words), &[]);
+    assert!(output.status.success());
+    let changed = Cage {
+        creases: vec![0, 2, 10],
+        ..cage
+    };
+    let written = std::fs::read(&stl).expect("a file");
+    assert!(written == stl_at(&changed, 4, Weight::Paper));
+}
+
 #[test]
 fn the_example_tells_wrong_creases() {
     let stl = Path::new(env!("CARGO_TARGET_TMPDIR")).join("refused.stl");
@@ -348,6 +414,39 @@ fn the_example_tells_that_there_is_no_memory() {
         let line = format!("example: there is no memory for the {what}\n");
         assert_eq!(String::from_utf8_lossy(&output.stderr), line);
         assert!(!stl.exists());
+    }
+}
+
+/// What a call leaves at the front of its buffer, then number and place.
+fn printed(question: Question) -> Vec<u8> {
+    let Outcome { answer, file, .. } = question.put_to(&SecondProgram);
+    let line = format!("{} {}\n", answer[0], answer[1]);
+    [&file[..answer[2] as usize], line.as_bytes()].concat()
+}
+
+/// The header's functions on files that no example calls, with their own arguments
+/// in their own places. Form 1 is read without creases, and has none to write.
+#[test]
+fn files_in_c() {
+    let program = compiled("host/compare/tests/in_c", "files");
+    for name in ["triangle", "pillow", "cushion", "creased-number-3-open"] {
+        for (form, file) in files_of(&named(name)) {
+            let mut read = read_cage(&file).expect(name);
+            if form == Form::One {
+                read.cage.creases.clear();
+            }
+            let lent = LONGEST_FORM_2;
+            let expected = [
+                Question::Write(&read.cage, lent),
+                Question::WriteForm2(&read.cage, read.weight, lent),
+                Question::ToForm2(&file, lent),
+                Question::ToForm1(&file, lent),
+            ];
+            let output = run(&mut Command::new(&program), &file);
+            assert!(output.status.success(), "{name}");
+            // Not assert_eq, which would print all files.
+            assert!(output.stdout == expected.map(printed).concat(), "{name}");
+        }
     }
 }
 
@@ -438,7 +537,7 @@ fn onto_a_full_disk(program: &Command) -> Command {
 fn the_examples_tell_a_full_disk() {
     let cage = named("pillow");
     let path = Path::new(env!("CARGO_TARGET_TMPDIR")).join("full");
-    std::fs::write(&path, file_of(&cage)).expect("written");
+    std::fs::write(&path, form_1_file(&cage)).expect("written");
     for (name, output) in [
         (
             "example",

@@ -2,12 +2,13 @@
 //! The answer and the tables come out the same, and the points mirrored.
 
 use compare::{
-    accepted, assert_alike, creased, file_of, first_difference, marked_tables, named, refused,
+    accepted, assert_alike, chosen, creased, first_difference, marked_tables, named, refused,
     room_at, verdict_with, Archive, Question, PLACES, WEIGHTS,
 };
-use ryebadger::{OwnedCage, Refined};
+use ryebadger::{CageFile, Refined};
 use second::cage::{Cage, MARKER};
 use second::mirror::mirrored;
+use second::questions::files::form_2_file;
 use second::suite::{suite, SuiteCage};
 use second::weight::Weight;
 
@@ -152,10 +153,11 @@ fn the_second_program_refines_every_small_mirror_alike() {
 #[test]
 fn a_pair_of_cushions() {
     let cage = named("cushion");
-    for weight in [ryebadger::Weight::Short, ryebadger::Weight::Paper] {
+    for weight in WEIGHTS {
         let [left, right] = [&cage, &mirror_of(&cage, 0)].map(|cage| {
-            let cage = OwnedCage::read(&file_of(cage)).expect("a cage file");
-            Refined::new(cage.as_cage(), 6, weight).expect("accepted")
+            let file = CageFile::read(&form_2_file(cage, weight)).expect("a cage file");
+            assert_eq!(file.weight, chosen(weight));
+            Refined::new(file.cage.as_cage(), 6, file.weight).expect("accepted")
         });
         assert_eq!(left.counts(), right.counts());
         for (left, right) in left.levels().zip(right.levels()) {

@@ -1,29 +1,108 @@
-//! What the safe crate allocates itself: a cage read, a cage built, a file or
-//! STL written, and all levels of a cage.
+//! What the safe crate allocates itself: a cage read, a cage built, a file written
+//! or moved, STL, and all levels of a cage.
 
 use compare::{
-    accepted, chosen, file_of, handed, named, refused, room_at, stl_length, verdict_with, Question,
-    SecondProgram, WEIGHTS,
+    accepted, chosen, files_of, handed, named, refused, room_at, stl_length, verdict_with,
+    Question, SecondProgram, WEIGHTS,
 };
-use ryebadger::{Cage, OwnedCage, Refined, Refusal, Weight};
-use second::file::read_cage;
+use ryebadger::{
+    moved_to_form_1, moved_to_form_2, Cage, CageFile, OwnedCage, Refined, Refusal, Weight,
+};
+use second::check::check;
+use second::file::{read_cage, Form, LONGEST_FORM_1, LONGEST_FORM_2};
+use second::questions::files::{damaged, suite_files};
 use second::questions::{stl, triangles};
 
+/// Number and place.
+fn told(refusal: Refusal) -> (u64, u64) {
+    (refusal.number().into(), refusal.place().into())
+}
+
+/// Form, weight and every table; of form 1 a 0 for each edge and the short weight.
 #[test]
-fn an_owned_cage_is_what_the_second_program_reads() {
-    for entry in accepted() {
-        let file = file_of(&entry.cage);
-        let cage = OwnedCage::read(&file).expect(&entry.name);
-        let judged = read_cage(&file).expect(&entry.name);
-        assert_eq!(cage.as_cage(), handed(&judged), "{}", entry.name);
-        assert!(cage.creases.iter().all(|&number| number == 0));
-        assert_eq!(cage.as_cage().to_file(), Ok(file), "{}", entry.name);
+fn a_cage_file_is_what_the_second_program_reads() {
+    for file in suite_files().chain(damaged()) {
+        match (CageFile::read(&file.bytes), read_cage(&file.bytes)) {
+            (Ok(read), Ok(judged)) => {
+                assert_eq!(read.form as u16, judged.form.number(), "{}", file.name);
+                assert_eq!(read.weight, chosen(judged.weight), "{}", file.name);
+                // Not assert_eq, which would print both cages.
+                assert!(read.cage.as_cage() == handed(&judged.cage), "{}", file.name);
+            }
+            (Err(refusal), Err(judged)) => {
+                let judged = (judged.number.into(), judged.place);
+                assert_eq!(told(refusal), judged, "{}", file.name);
+            }
+            _ => panic!("{}: one of the two refuses it", file.name),
+        }
     }
-    for bytes in [&b""[..], &[0x10, 6, 0], &[0x11, 6, 0]] {
-        let refusal = OwnedCage::read(bytes).expect_err("no file");
-        let judged = read_cage(bytes).expect_err("no file");
-        let numbers = (refusal.number(), u64::from(refusal.place()));
-        assert_eq!(numbers, (judged.number, judged.place));
+}
+
+#[test]
+fn written_files_are_the_second_programs() {
+    for entry in accepted() {
+        let (name, cage) = (&entry.name, handed(&entry.cage));
+        let [(_, old), (_, short), (_, paper)] = files_of(&entry.cage);
+        assert!(cage.to_file() == Ok(old), "{name}");
+        assert!(cage.to_form_2_file(Weight::Short) == Ok(short), "{name}");
+        assert!(cage.to_form_2_file(Weight::Paper) == Ok(paper), "{name}");
+    }
+    for entry in refused() {
+        let judged = check(&entry.cage).expect_err(&entry.name);
+        for weight in WEIGHTS {
+            let refusal = handed(&entry.cage).to_form_2_file(chosen(weight));
+            let numbers = refusal.map_err(told).expect_err(&entry.name);
+            assert_eq!(numbers, (judged.number.into(), judged.place));
+        }
+    }
+    assert_eq!(ryebadger::LONGEST_FORM_1, LONGEST_FORM_1);
+    assert_eq!(ryebadger::LONGEST_FORM_2, LONGEST_FORM_2);
+    assert_eq!(ryebadger::LONGEST_FILE, LONGEST_FORM_2);
+}
+
+#[test]
+fn moved_files_are_the_second_programs() {
+    let mut numbers = [0; 17];
+    for file in suite_files().chain(damaged()) {
+        let bytes = &file.bytes;
+        let to_form_2 = Question::ToForm2(bytes, LONGEST_FORM_2);
+        let to_form_1 = Question::ToForm1(bytes, LONGEST_FORM_2);
+        for (moved, question) in [
+            (moved_to_form_2(bytes), to_form_2),
+            (moved_to_form_1(bytes), to_form_1),
+        ] {
+            let judged = question.put_to(&SecondProgram);
+            let length = judged.answer[2] as usize;
+            match moved {
+                Ok(moved) => assert!(moved == judged.file[..length], "{}", file.name),
+                Err(refusal) => assert_eq!(told(refusal), judged.verdict(), "{}", file.name),
+            }
+            numbers[judged.answer[0] as usize] += 1;
+        }
+    }
+    for (number, count) in numbers.into_iter().enumerate() {
+        let is_a_moves = !matches!(number, 9 | 13 | 14);
+        assert_eq!(count > 0, is_a_moves, "{number}: {numbers:?}");
+    }
+}
+
+/// Without a crease table there is a 0 for each edge in the file.
+#[test]
+fn a_cage_without_creases_is_written_with_zeros() {
+    for entry in accepted() {
+        let plain = entry.cage.clone().without_creases();
+        let without = Cage {
+            creases: None,
+            ..handed(&entry.cage)
+        };
+        for (weight, (form, file)) in WEIGHTS
+            .into_iter()
+            .zip(files_of(&plain).into_iter().skip(1))
+        {
+            assert_eq!(form, Form::Two);
+            let written = without.to_form_2_file(chosen(weight));
+            assert!(written == Ok(file), "{}", entry.name);
+        }
     }
 }
 
@@ -44,10 +123,7 @@ fn a_cage_from_triangles_is_what_the_second_program_builds() {
                 assert_eq!((&cage.vert, &cage.points), (vert, points), "{name}");
                 assert_eq!(cage.creases, vec![0; judged.answer[3] as usize], "{name}");
             }
-            Err(refusal) => {
-                let numbers = (refusal.number().into(), refusal.place().into());
-                assert_eq!(numbers, judged.verdict(), "{name}");
-            }
+            Err(refusal) => assert_eq!(told(refusal), judged.verdict(), "{name}"),
         }
     }
     assert!(accepted > 100);
@@ -61,10 +137,7 @@ fn assert_stl(name: &str, level: Cage<'_>) {
     match level.to_stl() {
         // Not assert_eq, which would print both files.
         Ok(file) => assert!(judged.answer[0] == 0 && file == judged.file, "{name}"),
-        Err(refusal) => {
-            let numbers = (refusal.number().into(), refusal.place().into());
-            assert_eq!(numbers, judged.verdict(), "{name}");
-        }
+        Err(refusal) => assert_eq!(told(refusal), judged.verdict(), "{name}"),
     }
 }
 
@@ -145,8 +218,7 @@ fn refused_cages_and_depths_are_refused_by_number_and_place() {
                 let question = Question::Refine(&cage, depth, weight, [0; 5]);
                 let judged = question.put_to(&SecondProgram);
                 let refusal = Refined::new(handed(&cage), depth, chosen(weight));
-                let refusal = refusal.expect_err(&name);
-                let numbers = (refusal.number().into(), refusal.place().into());
+                let numbers = refusal.map_err(told).expect_err(&name);
                 assert_eq!(numbers, judged.verdict(), "{name}");
             }
         }

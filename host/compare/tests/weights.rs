@@ -3,12 +3,14 @@
 //! paper's weight.
 
 use compare::{
-    assert_alike, assert_same, file_of, marked_tables, named, room_at, verdict_with, vertices_of,
-    Archive, Question, SecondProgram, WEIGHTS,
+    assert_alike, assert_same, marked_tables, named, room_at, verdict_with, vertices_of, Archive,
+    Question, SecondProgram, WEIGHTS,
 };
 use second::build::build;
 use second::cage::{Cage, MARKER};
 use second::draw::Draw;
+use second::file::LONGEST_FORM_2;
+use second::questions::files::{form_1_file, form_2_file};
 use second::weight::{Weight, VALENCES};
 
 /// The cage of these triangles, with points drawn from the whole range.
@@ -221,15 +223,20 @@ fn valence_comes_after_the_depth_and_before_the_room() {
     }
 }
 
-/// Only refining has a weight: such a cage is checked, written and read.
+/// Such a cage is checked, written, read and moved all the same.
 #[test]
 fn no_other_operation_refuses_a_valence() {
     let cage = built(&disc(33));
-    let file = file_of(&cage);
+    let file = form_1_file(&cage);
+    let [short, paper] = WEIGHTS.map(|weight| form_2_file(&cage, weight));
     for question in [
         Question::Check(&cage),
         Question::Write(&cage, file.len()),
         Question::Read(&file, [99, 99, 99, 102, 0]),
+        Question::WriteForm2(&cage, Weight::Paper, paper.len()),
+        Question::Read(&paper, [99, 99, 99, 102, 66]),
+        Question::ToForm2(&file, short.len()),
+        Question::ToForm1(&short, file.len()),
         Question::Build(&cage.vert, &cage.points, [99; 2]),
         Question::WriteStl(&cage.vert, &cage.points, 84 + 50 * 33),
     ] {
@@ -242,12 +249,16 @@ fn no_other_operation_refuses_a_valence() {
 fn every_other_number_is_the_papers_weight() {
     for name in ["pillow", "octahedron", "disc-33", "pieces", "cushion"] {
         let cage = named(name);
-        let question = Question::Refine(&cage, 2, Weight::Paper, room_at(&cage, 2));
-        let judged = question.put_to(&SecondProgram);
-        let single_bits = (0..32).map(|bit| 1 << bit);
-        for paper in single_bits.chain([3, 255, 257, 65_535, u32::MAX - 1, u32::MAX]) {
-            let host = question.put_to(&Archive { paper });
-            assert_same(name, &question, &host, &judged);
+        for question in [
+            Question::Refine(&cage, 2, Weight::Paper, room_at(&cage, 2)),
+            Question::WriteForm2(&cage, Weight::Paper, LONGEST_FORM_2),
+        ] {
+            let judged = question.put_to(&SecondProgram);
+            let single_bits = (0..32).map(|bit| 1 << bit);
+            for paper in single_bits.chain([3, 255, 257, 65_535, u32::MAX - 1, u32::MAX]) {
+                let host = question.put_to(&Archive { paper });
+                assert_same(name, &question, &host, &judged);
+            }
         }
     }
 }

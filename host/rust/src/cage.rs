@@ -38,8 +38,7 @@ pub struct Cage<'a> {
     pub creases: Option<&'a [u8]>,
 }
 
-/// Five lent tables, of any length, for refining to write, and four of them for
-/// reading, which has no creases.
+/// Five lent tables, of any length, for refining and reading to write.
 ///
 /// A table that is lent cannot be handed over a second time:
 ///

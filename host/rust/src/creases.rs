@@ -10,6 +10,11 @@ pub const CREASE_LIMIT: u8 = 10;
 /// halfedges.
 static NO_CREASES: [u8; HALFEDGE_LIMIT] = [0; HALFEDGE_LIMIT];
 
+/// A zero for each edge of a TWIN table.
+pub(crate) fn no_creases(twin: &[u32]) -> Vec<u8> {
+    vec![0; edges(twin) as usize]
+}
+
 impl<'a> Cage<'a> {
     /// The crease table as it is handed over: the one that there is, or else a
     /// zero for each edge.

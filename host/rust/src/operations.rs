@@ -1,4 +1,5 @@
-//! The operations of documents 01 and 02, each with a `Result`.
+//! The operations of documents 01 and 02 but for those on cage files, each with a
+//! `Result`.
 //!
 //! Every operation answers for any input; its refusals are those listed with
 //! it. A refusal leaves every lent cell as it was.
@@ -42,15 +43,6 @@ pub struct LevelCounts {
     /// The sum of E over levels 0 to the depth: cells needed in the lent
     /// creases.
     pub edge_room: u32,
-}
-
-/// H and V of a file that was read.
-#[derive(Clone, Copy, Debug, PartialEq, Eq)]
-pub struct FileCounts {
-    /// H.
-    pub halfedges: u32,
-    /// V.
-    pub vertices: u32,
 }
 
 /// E of any TWIN table: how many halfedges have no twin or a twin with a lower
@@ -161,30 +153,6 @@ pub fn corners(vert: &[u32], triangle: u64) -> Result<[u32; 3], Refusal> {
     Ok(corners)
 }
 
-/// Reading a cage file to the front of the lent tables, without checks 3 to 8.
-/// Cells past H, or past 3V in the points, are untouched, and so are the lent
-/// creases, of which the file has none. Gives refusals 1, 2 and 9 to 12.
-/// [`OwnedCage::read`](crate::OwnedCage::read) allocates.
-pub fn read(file: &[u8], lent: &mut LentTables<'_>) -> Result<FileCounts, Refusal> {
-    let mut answer = [0; sys::READ_ANSWER];
-    sys::read(file, lent, &mut answer);
-    let [number, place, halfedges, vertices] = answer;
-    refuse(number, place)?;
-    Ok(FileCounts {
-        halfedges,
-        vertices,
-    })
-}
-
-/// Writing a cage file to the front of the lent buffer; its length is returned.
-/// Bytes past it are untouched. The file has no place for creases: they are not
-/// looked at. Gives refusals 1 to 9. [`Cage::to_file`] allocates.
-pub fn write(cage: Cage<'_>, lent_file: &mut [u8]) -> Result<usize, Refusal> {
-    let mut answer = [0; sys::WRITE_ANSWER];
-    sys::write(cage, lent_file, &mut answer);
-    written(answer)
-}
-
 /// Building a cage from plain triangles: VERT, which has the corners of one
 /// triangle after another's, and the points. TWIN and EDGE go to the front of
 /// the lent tables; cells past H are untouched. Gives refusals 1, 2, 13, 4, 5,
@@ -244,7 +212,7 @@ pub const fn stl_length(triangles: u32) -> usize {
 }
 
 /// The refusal of a number that is not 0.
-fn refuse(number: u32, place: u32) -> Result<(), Refusal> {
+pub(crate) fn refuse(number: u32, place: u32) -> Result<(), Refusal> {
     match number {
         0 => Ok(()),
         _ => Err(Refusal::told(number, place)),
@@ -263,7 +231,8 @@ fn checked(answer: [u32; sys::CHECK_ANSWER]) -> Result<CageCounts, Refusal> {
     })
 }
 
-fn written(answer: [u32; sys::WRITE_ANSWER]) -> Result<usize, Refusal> {
+/// What a writer and a move answer.
+pub(crate) fn written(answer: [u32; sys::WRITE_ANSWER]) -> Result<usize, Refusal> {
     let [number, place, length] = answer;
     refuse(number, place)?;
     Ok(length as usize)

@@ -1,33 +1,16 @@
-//! The operations with their tables allocated: reading and building an owned
-//! cage, a whole file or STL, and all levels of a cage.
+//! The operations but for those on cage files with their tables allocated:
+//! building an owned cage, a whole STL, and all levels of a cage.
 
 use std::ops::Range;
 
-use crate::cage::{HALFEDGE_LIMIT, LONGEST_TABLE, VERTEX_LIMIT};
+use crate::cage::{HALFEDGE_LIMIT, LONGEST_TABLE};
+use crate::creases::no_creases;
 use crate::operations::{
-    build, check, counts, edges, read, refine, stl_length, write, write_stl, CageCounts,
-    LevelCounts, LEVELS,
+    build, check, counts, refine, stl_length, write_stl, CageCounts, LevelCounts, LEVELS,
 };
 use crate::{Cage, OwnedCage, Refusal, Weight};
 
-/// The bytes of the longest cage file.
-pub const LONGEST_FILE: usize = 24 + 6 * HALFEDGE_LIMIT + 12 * VERTEX_LIMIT;
-
 impl OwnedCage {
-    /// Reads a cage file, without checks 3 to 8. The file has no creases: there
-    /// is a 0 for each edge. Gives refusals 1, 2 and 10 to 12.
-    pub fn read(file: &[u8]) -> Result<OwnedCage, Refusal> {
-        let mut cage = OwnedCage::with_room(HALFEDGE_LIMIT, VERTEX_LIMIT, 0);
-        let found = read(file, &mut cage.lend())?;
-        let (halfedges, vertices) = (found.halfedges as usize, found.vertices as usize);
-        cage.twin.truncate(halfedges);
-        cage.vert.truncate(halfedges);
-        cage.edge.truncate(halfedges);
-        cage.points.truncate(3 * vertices);
-        cage.creases = no_creases(&cage.twin);
-        Ok(cage)
-    }
-
     /// Builds a cage from plain triangles: three corner numbers for each, and
     /// x, y, z of each vertex. No edge of it is a crease. Gives refusals 1, 2,
     /// 13, 4, 5, 7 and 8, in this order.
@@ -62,21 +45,7 @@ impl OwnedCage {
     }
 }
 
-/// A zero for each edge.
-fn no_creases(twin: &[u32]) -> Vec<u8> {
-    vec![0; edges(twin) as usize]
-}
-
 impl Cage<'_> {
-    /// The cage file of this cage, which has no place for creases: they are not
-    /// looked at. Gives refusals 1 to 8.
-    pub fn to_file(self) -> Result<Vec<u8>, Refusal> {
-        let mut file = vec![0; LONGEST_FILE];
-        let length = write(self, &mut file)?;
-        file.truncate(length);
-        Ok(file)
-    }
-
     /// The binary STL file of this cage or level, from its VERT table and its
     /// points alone. Gives refusals 1, 2, 4 and 8.
     ///

@@ -6,8 +6,8 @@ use std::fmt;
 
 /// The first check that holds, and where.
 ///
-/// Later forms of the cage file may bring further refusals, so a `match` needs
-/// an arm for the rest.
+/// Later requests may bring further refusals, so a `match` needs an arm for the
+/// rest.
 #[derive(Clone, Copy, Debug, PartialEq, Eq, Hash)]
 #[non_exhaustive]
 pub enum Refusal {
@@ -57,7 +57,7 @@ pub enum Refusal {
         /// Of that head.
         offset: u32,
     },
-    /// 11: wrong tag, length or form number.
+    /// 11: wrong tag, length, form number or weight.
     Field {
         /// Of that head.
         offset: u32,
@@ -82,6 +82,8 @@ pub enum Refusal {
         /// The lowest such edge.
         edge: u32,
     },
+    /// 16: a file to be moved to form 1 has a crease or a weight that is not 0.
+    NotOld,
     /// A number or a place that the documents do not have. The proved archive
     /// never gives it.
     Unknown {
@@ -140,6 +142,7 @@ impl Refusal {
             (13, halfedge) => Refusal::Doubled { halfedge },
             (14, vertex) => Refusal::Valence { vertex },
             (15, edge) => Refusal::Crease { edge },
+            (16, 0) => Refusal::NotOld,
             _ => Refusal::Unknown { number, place },
         }
     }
@@ -162,6 +165,7 @@ impl Refusal {
             Refusal::Doubled { halfedge } => (13, halfedge, "DOUBLED"),
             Refusal::Valence { vertex } => (14, vertex, "VALENCE"),
             Refusal::Crease { edge } => (15, edge, "CREASE"),
+            Refusal::NotOld => (16, 0, "NOT OLD"),
             Refusal::Unknown { number, place } => (number, place, "UNKNOWN"),
         }
     }
@@ -199,8 +203,8 @@ mod tests {
     /// have.
     #[test]
     fn number_and_place_are_kept() {
-        for number in 1..=16 {
-            for place in [0, 1, 2, 3, 4, 5, 6, 7, 8, 43_032, u32::MAX] {
+        for number in 1..=17 {
+            for place in [0, 1, 2, 3, 4, 5, 6, 7, 8, 46_111, u32::MAX] {
                 let refusal = Refusal::told(number, place);
                 assert_eq!((refusal.number(), refusal.place()), (number, place));
             }
@@ -231,7 +235,7 @@ mod tests {
     fn names_stand_in_the_documents_order() {
         let names = [
             "SHAPE", "LIMIT", "TWIN", "VERTEX", "UNUSED", "EDGE", "FAN", "POINT", "ROOM", "SHORT",
-            "FIELD", "EXTRA", "DOUBLED", "VALENCE", "CREASE",
+            "FIELD", "EXTRA", "DOUBLED", "VALENCE", "CREASE", "NOT OLD",
         ];
         for (number, name) in (1..).zip(names) {
             let place = u32::from(number == 9);

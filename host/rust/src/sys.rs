@@ -27,11 +27,11 @@ pub const COUNTS_ANSWER: usize = 26;
 /// The length of the corner question's answer: number, place, three corners.
 pub const CORNERS_ANSWER: usize = 5;
 
-/// The length of reading's answer: number, place, H and V.
-pub const READ_ANSWER: usize = 4;
+/// The length of reading's answer: number, place, form, H, V, E and weight.
+pub const READ_ANSWER: usize = 7;
 
-/// The length of writing's answer, which writing STL gives too: number, place
-/// and the file's length.
+/// The length of writing's answer, which the moves and writing STL give too:
+/// number, place and the file's length.
 pub const WRITE_ANSWER: usize = 3;
 
 #[rustfmt::skip] // a table's pointer and length stand side by side
@@ -59,12 +59,29 @@ extern "C" {
         file: *const u8, file_length: usize,
         lent_twin: *mut u32, lent_twin_length: usize, lent_vert: *mut u32, lent_vert_length: usize,
         lent_edge: *mut u32, lent_edge_length: usize, lent_points: *mut i32, lent_points_length: usize,
+        lent_creases: *mut u8, lent_creases_length: usize,
         answer: *mut u32,
     );
     fn ryebadger_write(
         twin: *const u32, twin_length: usize, vert: *const u32, vert_length: usize,
         edge: *const u32, edge_length: usize, points: *const i32, points_length: usize,
         lent_file: *mut u8, lent_file_length: usize,
+        answer: *mut u32,
+    );
+    fn ryebadger_write_form_2(
+        twin: *const u32, twin_length: usize, vert: *const u32, vert_length: usize,
+        edge: *const u32, edge_length: usize, points: *const i32, points_length: usize,
+        creases: *const u8, creases_length: usize,
+        weight: u32,
+        lent_file: *mut u8, lent_file_length: usize,
+        answer: *mut u32,
+    );
+    fn ryebadger_to_form_2(
+        file: *const u8, file_length: usize, lent_file: *mut u8, lent_file_length: usize,
+        answer: *mut u32,
+    );
+    fn ryebadger_to_form_1(
+        file: *const u8, file_length: usize, lent_file: *mut u8, lent_file_length: usize,
         answer: *mut u32,
     );
     fn ryebadger_build(
@@ -144,7 +161,7 @@ pub fn corners(vert: &[u32], triangle: u64, answer: &mut [u32; CORNERS_ANSWER]) 
     unsafe { ryebadger_corners(vert.as_ptr(), vert.len(), triangle, answer.as_mut_ptr()) }
 }
 
-/// Reading a cage file.
+/// Reading a cage file of either form.
 #[rustfmt::skip]
 pub fn read(file: &[u8], lent: &mut LentTables<'_>, answer: &mut [u32; READ_ANSWER]) {
     unsafe {
@@ -152,12 +169,13 @@ pub fn read(file: &[u8], lent: &mut LentTables<'_>, answer: &mut [u32; READ_ANSW
             file.as_ptr(), file.len(),
             lent.twin.as_mut_ptr(), lent.twin.len(), lent.vert.as_mut_ptr(), lent.vert.len(),
             lent.edge.as_mut_ptr(), lent.edge.len(), lent.points.as_mut_ptr(), lent.points.len(),
+            lent.creases.as_mut_ptr(), lent.creases.len(),
             answer.as_mut_ptr(),
         );
     }
 }
 
-/// Writing a cage file.
+/// Writing a cage file of form 1.
 #[rustfmt::skip]
 pub fn write(cage: Cage<'_>, lent_file: &mut [u8], answer: &mut [u32; WRITE_ANSWER]) {
     unsafe {
@@ -165,6 +183,49 @@ pub fn write(cage: Cage<'_>, lent_file: &mut [u8], answer: &mut [u32; WRITE_ANSW
             cage.twin.as_ptr(), cage.twin.len(), cage.vert.as_ptr(), cage.vert.len(),
             cage.edge.as_ptr(), cage.edge.len(), cage.points.as_ptr(), cage.points.len(),
             lent_file.as_mut_ptr(), lent_file.len(),
+            answer.as_mut_ptr(),
+        );
+    }
+}
+
+/// Writing a cage file of form 2. The weight is as in [`refine`].
+#[rustfmt::skip]
+pub fn write_form_2(
+    cage: Cage<'_>,
+    weight: u32,
+    lent_file: &mut [u8],
+    answer: &mut [u32; WRITE_ANSWER],
+) {
+    let creases = cage.crease_table();
+    unsafe {
+        ryebadger_write_form_2(
+            cage.twin.as_ptr(), cage.twin.len(), cage.vert.as_ptr(), cage.vert.len(),
+            cage.edge.as_ptr(), cage.edge.len(), cage.points.as_ptr(), cage.points.len(),
+            creases.as_ptr(), creases.len(),
+            weight,
+            lent_file.as_mut_ptr(), lent_file.len(),
+            answer.as_mut_ptr(),
+        );
+    }
+}
+
+/// Moving a cage file from form 1 to form 2.
+#[rustfmt::skip]
+pub fn to_form_2(file: &[u8], lent_file: &mut [u8], answer: &mut [u32; WRITE_ANSWER]) {
+    unsafe {
+        ryebadger_to_form_2(
+            file.as_ptr(), file.len(), lent_file.as_mut_ptr(), lent_file.len(),
+            answer.as_mut_ptr(),
+        );
+    }
+}
+
+/// Moving a cage file from form 2 to form 1.
+#[rustfmt::skip]
+pub fn to_form_1(file: &[u8], lent_file: &mut [u8], answer: &mut [u32; WRITE_ANSWER]) {
+    unsafe {
+        ryebadger_to_form_1(
+            file.as_ptr(), file.len(), lent_file.as_mut_ptr(), lent_file.len(),
             answer.as_mut_ptr(),
         );
     }

@@ -1,25 +1,16 @@
-//! Document 01, "The cage file": the fields and their tags. Reading and
-//! writing have modules of their own.
+//! Document 01, "The cage file", and document 02, §7, "Form 2 files". What the
+//! fields of either form are, reading, writing and the moves from form to form
+//! have modules of their own.
 
+mod fields;
+mod moves;
 mod read;
 mod write;
 
-pub use read::{read_cage, read_cage_file, FileCounts};
-pub use write::write_cage_file;
+pub use fields::{Form, LONGEST_FORM_1, LONGEST_FORM_2};
+pub use moves::{to_form_1, to_form_2};
+pub use read::{read_cage, read_cage_file, FileCage, FileCounts};
+pub use write::{write_cage_file, write_form_2_file};
 
-/// The tag of each field, in the order of the file.
-const FIRST_TAG: u8 = 0x10;
-const TWIN_TAG: u8 = 0x20;
-const VERT_TAG: u8 = 0x21;
-const EDGE_TAG: u8 = 0x22;
-const POINTS_TAG: u8 = 0x30;
-const END_TAG: u8 = 0x7F;
-
-/// The form number of a cage file.
-const FORM: u16 = 1;
-
-/// What stands in the twin payload for no twin.
-const NO_TWIN: u16 = 65_535;
-
-/// The bytes of a field's head: a tag and a length.
-const HEAD_LENGTH: usize = 3;
+pub(crate) use fields::{Field, Tag, HEAD_LENGTH};
+pub(crate) use write::fields_of;

@@ -6,7 +6,9 @@ use std::cmp::Ordering;
 
 use second::cage::{Cage, MARKER};
 use second::counts::LevelCounts;
-use second::file::write_cage_file;
+use second::file::{
+    read_cage_file, write_cage_file, write_form_2_file, FileCounts, LONGEST_FORM_1, LONGEST_FORM_2,
+};
 use second::refine::refine;
 use second::refusal::Refusal;
 use second::suite::{accepted_cages, SuiteCage};
@@ -239,10 +241,45 @@ pub fn rounded(numerator: i64, denominator: i64) -> i64 {
     rounded_by(numerator, denominator, |lower| lower >= 0)
 }
 
-/// The cage file of an accepted cage.
+/// The form 1 file of an accepted cage.
 pub fn file_of(cage: &Cage) -> Vec<u8> {
-    let mut file = vec![0; 65_536];
+    let mut file = vec![0; LONGEST_FORM_1];
     let length = write_cage_file(cage, &mut file).expect("written");
     file.truncate(length as usize);
     file
+}
+
+/// The form 2 file of an accepted cage.
+pub fn form_2_file_of(cage: &Cage, weight: Weight) -> Vec<u8> {
+    let mut file = vec![0; LONGEST_FORM_2];
+    let length = write_form_2_file(cage, weight, &mut file).expect("written");
+    file.truncate(length as usize);
+    file
+}
+
+/// Two triangles with the edge from 1 to 2 between them, which is edge 1 and has
+/// this crease number. E is 5, which is neither H, 6, nor half of it.
+pub fn creased_pair(number: u8) -> Cage {
+    Cage {
+        twin: vec![MARKER, 3, MARKER, 1, MARKER, MARKER],
+        vert: vec![0, 1, 2, 2, 1, 3],
+        edge: vec![0, 1, 2, 1, 3, 4],
+        points: (0..12).map(|at| 700 * at - 4_000).collect(),
+        creases: vec![0, number, 0, 0, 0],
+    }
+}
+
+/// Reads into tables of these lengths. On a refusal they must be as before, and of
+/// a file of form 1 the crease table always.
+pub fn read_into(file: &[u8], lengths: [usize; 5]) -> Result<(FileCounts, Cage), Refusal> {
+    let before = lendable(lengths);
+    let mut tables = before.clone();
+    let answer = read_cage_file(file, &mut lend(&mut tables));
+    if answer.is_err() {
+        assert_eq!(tables, before);
+    }
+    if answer.is_ok_and(|counts| counts.form == 1) {
+        assert_eq!(tables.creases, before.creases);
+    }
+    answer.map(|counts| (counts, tables))
 }

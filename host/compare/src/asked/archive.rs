@@ -19,6 +19,15 @@ impl Default for Archive {
     }
 }
 
+impl Archive {
+    fn number(&self, weight: Weight) -> u32 {
+        match weight {
+            Weight::Short => 0,
+            Weight::Paper => self.paper,
+        }
+    }
+}
+
 /// An answer whose cells hold something beforehand: all of them have to be
 /// written.
 fn answered<const N: usize>(ask: impl FnOnce(&mut [u32; N])) -> Vec<u64> {
@@ -45,10 +54,7 @@ impl Operations for Archive {
     }
 
     fn refine(&self, cage: &Cage, depth: u64, weight: Weight, tables: &mut Cage) -> Vec<u64> {
-        let number = match weight {
-            Weight::Short => 0,
-            Weight::Paper => self.paper,
-        };
+        let number = self.number(weight);
         answered(|answer| sys::refine(handed(cage), depth, number, &mut lent(tables), answer))
     }
 
@@ -58,6 +64,19 @@ impl Operations for Archive {
 
     fn write(&self, cage: &Cage, lent_file: &mut [u8]) -> Vec<u64> {
         answered(|answer| sys::write(handed(cage), lent_file, answer))
+    }
+
+    fn write_form_2(&self, cage: &Cage, weight: Weight, lent_file: &mut [u8]) -> Vec<u64> {
+        let number = self.number(weight);
+        answered(|answer| sys::write_form_2(handed(cage), number, lent_file, answer))
+    }
+
+    fn to_form_2(&self, file: &[u8], lent_file: &mut [u8]) -> Vec<u64> {
+        answered(|answer| sys::to_form_2(file, lent_file, answer))
+    }
+
+    fn to_form_1(&self, file: &[u8], lent_file: &mut [u8]) -> Vec<u64> {
+        answered(|answer| sys::to_form_1(file, lent_file, answer))
     }
 
     fn build(&self, vert: &[u32], points: &[i32], tables: &mut Cage) -> Vec<u64> {

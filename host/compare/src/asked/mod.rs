@@ -23,6 +23,9 @@ pub trait Operations {
     fn refine(&self, cage: &Cage, depth: u64, weight: Weight, lent: &mut Cage) -> Vec<u64>;
     fn read(&self, file: &[u8], lent: &mut Cage) -> Vec<u64>;
     fn write(&self, cage: &Cage, lent_file: &mut [u8]) -> Vec<u64>;
+    fn write_form_2(&self, cage: &Cage, weight: Weight, lent_file: &mut [u8]) -> Vec<u64>;
+    fn to_form_2(&self, file: &[u8], lent_file: &mut [u8]) -> Vec<u64>;
+    fn to_form_1(&self, file: &[u8], lent_file: &mut [u8]) -> Vec<u64>;
     /// Only TWIN and EDGE are lent.
     fn build(&self, vert: &[u32], points: &[i32], lent: &mut Cage) -> Vec<u64>;
     fn write_stl(&self, vert: &[u32], points: &[i32], lent_file: &mut [u8]) -> Vec<u64>;

@@ -1,6 +1,6 @@
 //! The safe crate.
 
-use ryebadger::{CageCounts, LevelCounts, Refusal};
+use ryebadger::{CageCounts, FileCounts, LevelCounts, Refusal};
 use second::cage::Cage;
 use second::weight::Weight;
 
@@ -32,13 +32,24 @@ impl Operations for SafeCrate {
     }
 
     fn read(&self, file: &[u8], tables: &mut Cage) -> Vec<u64> {
-        let found = ryebadger::read(file, &mut lent(tables));
-        answer(found.map(|found| [found.halfedges, found.vertices]))
+        answer(ryebadger::read(file, &mut lent(tables)).map(file_numbers))
     }
 
     fn write(&self, cage: &Cage, lent_file: &mut [u8]) -> Vec<u64> {
-        let length = ryebadger::write(handed(cage), lent_file);
-        answer(length.map(|length| [length as u64]))
+        length(ryebadger::write(handed(cage), lent_file))
+    }
+
+    fn write_form_2(&self, cage: &Cage, weight: Weight, lent_file: &mut [u8]) -> Vec<u64> {
+        let weight = chosen(weight);
+        length(ryebadger::write_form_2(handed(cage), weight, lent_file))
+    }
+
+    fn to_form_2(&self, file: &[u8], lent_file: &mut [u8]) -> Vec<u64> {
+        length(ryebadger::to_form_2(file, lent_file))
+    }
+
+    fn to_form_1(&self, file: &[u8], lent_file: &mut [u8]) -> Vec<u64> {
+        length(ryebadger::to_form_1(file, lent_file))
     }
 
     fn build(&self, vert: &[u32], points: &[i32], tables: &mut Cage) -> Vec<u64> {
@@ -47,14 +58,23 @@ impl Operations for SafeCrate {
     }
 
     fn write_stl(&self, vert: &[u32], points: &[i32], lent_file: &mut [u8]) -> Vec<u64> {
-        let length = ryebadger::write_stl(vert, points, lent_file);
-        answer(length.map(|length| [length as u64]))
+        length(ryebadger::write_stl(vert, points, lent_file))
     }
 }
 
 fn answer<const N: usize>(result: Result<[impl Into<u64>; N], Refusal>) -> Vec<u64> {
     let values = result.map(|values| values.map(Into::into));
     told(values.map_err(|refusal| [refusal.number().into(), refusal.place().into()]))
+}
+
+fn length(result: Result<usize, Refusal>) -> Vec<u64> {
+    answer(result.map(|length| [length as u64]))
+}
+
+/// Form, H, V, E and weight.
+fn file_numbers(found: FileCounts) -> [u32; 5] {
+    let (h, v, e) = (found.halfedges, found.vertices, found.edges);
+    [found.form as u32, h, v, e, found.weight as u32]
 }
 
 /// H, E, F, V and B.

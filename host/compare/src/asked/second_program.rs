@@ -5,7 +5,9 @@ use second::cage::{edges, Cage};
 use second::check::{check, CageCounts};
 use second::corners::corner_question;
 use second::counts::{count_question, LevelCounts};
-use second::file::{read_cage_file, write_cage_file};
+use second::file::{
+    read_cage_file, to_form_1, to_form_2, write_cage_file, write_form_2_file, FileCounts,
+};
 use second::refine::refine;
 use second::refusal::Refusal;
 use second::stl::write_stl;
@@ -40,12 +42,23 @@ impl Operations for SecondProgram {
     }
 
     fn read(&self, file: &[u8], tables: &mut Cage) -> Vec<u64> {
-        let found = read_cage_file(file, &mut lent(tables));
-        answer(found.map(|found| [found.halfedges, found.vertices]))
+        answer(read_cage_file(file, &mut lent(tables)).map(file_numbers))
     }
 
     fn write(&self, cage: &Cage, lent_file: &mut [u8]) -> Vec<u64> {
         answer(write_cage_file(cage, lent_file).map(|length| [length]))
+    }
+
+    fn write_form_2(&self, cage: &Cage, weight: Weight, lent_file: &mut [u8]) -> Vec<u64> {
+        answer(write_form_2_file(cage, weight, lent_file).map(|length| [length]))
+    }
+
+    fn to_form_2(&self, file: &[u8], lent_file: &mut [u8]) -> Vec<u64> {
+        answer(to_form_2(file, lent_file).map(|length| [length]))
+    }
+
+    fn to_form_1(&self, file: &[u8], lent_file: &mut [u8]) -> Vec<u64> {
+        answer(to_form_1(file, lent_file).map(|length| [length]))
     }
 
     fn build(&self, vert: &[u32], points: &[i32], tables: &mut Cage) -> Vec<u64> {
@@ -60,6 +73,12 @@ impl Operations for SecondProgram {
 
 fn answer<const N: usize>(result: Result<[u64; N], Refusal>) -> Vec<u64> {
     told(result.map_err(|refusal| [refusal.number.into(), refusal.place]))
+}
+
+/// Form, H, V, E and weight.
+fn file_numbers(found: FileCounts) -> [u64; 5] {
+    let (h, v, e) = (found.halfedges, found.vertices, found.edges);
+    [found.form, h, v, e, found.weight]
 }
 
 /// H, E, F, V and B.

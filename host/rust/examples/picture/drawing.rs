@@ -40,16 +40,19 @@ type Point = [f64; 3];
 
 /// The picture of all levels, two panels beside each other.
 pub fn svg(refined: &Refined) -> String {
+    let cage = refined.level(0).unwrap_or_default();
+    let is_creased = cage.crease_table().iter().any(|&number| number > 0);
+    let seam = if is_creased { " with a seam" } else { "" };
     let rows = refined.levels().count().div_ceil(2) as f64;
     let (width, height) = (2.0 * PANEL[0], rows * (PANEL[1] + CAPTION));
     let (pixels, lines) = (width / 10.0, height / 10.0);
     let mut text = format!(
         r##"<svg xmlns="http://www.w3.org/2000/svg" viewBox="0 0 {width} {height}" width="{pixels}" height="{lines}">
-<title>A cage with a seam and its first three levels</title>
+<title>A cage{seam} and its first three levels</title>
 <rect width="100%" height="100%" fill="#fbfaf7"/>
 "##
     );
-    let view = View::of(refined.level(0).unwrap_or_default());
+    let view = View::of(cage);
     for (number, level) in refined.levels().enumerate() {
         let (column, row) = ((number % 2) as f64, (number / 2) as f64);
         let (x, y) = (column * PANEL[0], row * (PANEL[1] + CAPTION));
