@@ -39,7 +39,7 @@ module _ (f : List ℕ) where
   creasedLeft = twinsAsked f 0 ++ frontToBack f (18 + 6 * HIn f) (nothing ∷ nothing ∷ weightAsked f ∷ []) (laterHeads Two (E (twinsIn f)) (VIn f))
 
   left-one : left One ≡ tables ++ plainLeft
-  unfolding frontToBack
+  unfolding frontToBack laterHeads
   left-one = tables-alone f (HIn f) (laterHeads One 0 (VIn f))
 
   left-two : left Two ≡ tables ++ creasedLeft

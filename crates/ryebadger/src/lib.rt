@@ -205,8 +205,8 @@ pub extern "C" fn ryebadger_write_form_2(
         (now (file .entry)) in
         ⌜ (now (answer .exit) ≡ lengthCells (after .answer)) × (now (file .exit) ≡ after .file) ⌝ }
 {
-    let chosen = Weight::numbered(weight);
-    let writing = writing::write_form_2(twin, vert, edge, points, creases, chosen, file);
+    let told = Weight::numbered(weight);
+    let writing = writing::write_form_2(twin, vert, edge, points, creases, told, file);
     *answer = answers::of_writing(writing);
 }
 
