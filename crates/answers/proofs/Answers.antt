@@ -286,7 +286,7 @@ module _ (f : List ℕ) where
   file-small forms =
       joined-small (fieldChecks f 0 opening) _ (field-small f 0 opening (omega arith))
       (λ _. joined-small (openingAsked forms f 0) _ (opening-small forms)
-      (λ e. let k = opening-kept forms f 0 e in front-small f (past 0 opening) _ _ (later-small (formOf f) (k .1)) (ends (formOf f) (k .1) (k .2))))
+      (λ e. let k = opening-kept forms f 0 e in front-small f (past 0 opening) (laterAsked (formOf f) f) (heads (formOf f) (HIn f) (edgesFor (formOf f) (twinsIn f)) (VIn f)) (later-small (formOf f) (k .1)) (ends (formOf f) (k .1) (k .2))))
 
 form-small : (form : Form) → number form < 4294967296
 form-small One = omega arith

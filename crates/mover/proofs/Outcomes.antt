@@ -1,5 +1,5 @@
 -- The reply to a file's bytes, by what the move left. Assumes nothing.
---     moved-says       what is told and what stands at the front is the reply
+--     moved-says       what is told and what stands at the front is the reply, within what was lent (`says-counts`)
 --     front-moved      a buffer that holds more than the longest file that reads holds enough of any: its bytes get the reply of the whole
 use Prim.Native.Nat.{ℕ, _≤_, _<_}
 use mathlib.Core.Path.{_≡_, refl, sym, ap, _∙_}
@@ -7,8 +7,8 @@ use mathlib.Core.Logic.{_≢_}
 use mathlib.Core.List.{List, [], _∷_}
 use native.Mathlib.Decide.{ℕ-discrete, decLt}
 use native.Mathlib.Omega.{arith}
-use lib.ListN.{length, take, length-replicate}
-use lib.Seq.{take-all}
+use lib.ListN.{length, take, drop, length-append, length-replicate}
+use lib.Seq.{take-all, length-take-le}
 use borrow.Author.Tests.{eq-eqb, ne-eqb}
 use Rattle.halfedges.specs.Refusals.{told, first, said, filled}
 use Rattle.halfedges.proofs.Checks.{first-refused-before}
@@ -20,9 +20,16 @@ use Rattle.writing.specs.declared.Writing.{Writing}
 use Rattle.writing.specs.Writing.{written, wrote}
 use Rattle.moves.specs.Moves.{cageMoves, moveVerdict, move}
 use Rattle.text.specs.declared.replies.Written.{Written}
-use Rattle.text.specs.Replies.{refused, Says}
+use Rattle.io.specs.Counts.{Counts}
+use Rattle.text.specs.Replies.{Reply, refused, Says}
 use Rattle.text.specs.Internal.Put.{Replied}
 use Rattle.mover.specs.Moving.{roomyFile, moving}
+
+-- what is told stands within what was lent
+pub says-counts : {reply : Reply} {before after : List ℕ} {r : Written} → Says reply before after r → Counts (r .length) after
+says-counts {reply} {before} {after} {r} s =
+    let fits : r .length ≤ length after = rw (s .text) (omega (arith, s .ends, length-append (reply .text) (drop (length (reply .text)) before))) in
+    (fits, sym (length-take-le _ _ fits))
 
 -- the bytes of the longest file
 abbrev pub most : ℕ

@@ -1,1 +1,4 @@
+pub mod FormFirst
+pub mod CageMoves
+pub mod Moved
 pub mod ThereAndBack

@@ -6,7 +6,7 @@ ghost use Rattle.cagefile.specs.declared.fields.Form.the-variants.{One, Two};
 ghost use Rattle.halfedges.specs.Cage.{E};
 ghost use Rattle.halfedges.specs.Refusals.{told, first};
 ghost use Rattle.tables.specs.Tables.{tables};
-ghost use Rattle.cagefile.specs.Fields.{file as Fields·file};
+ghost use Rattle.cagefile.specs.Fields.{Cage, file as Fields·file};
 ghost use Rattle.reading.specs.Reading.{fileChecks};
 ghost use Rattle.reading.specs.Internal.Fronts.{Ample, Fronts};
 ghost use Rattle.writing.specs.Writing.{wrote, written};
@@ -26,43 +26,22 @@ pub fn to_form_2(file: &[u8], lent: &mut [u8]) -> Writing
         let after = move One Two (now (file .entry)) (now (lent .entry)) in
         ⌜ (wrote r ≡ after .answer) × (now (lent .exit) ≡ after .file) ⌝ }
 {
-    let mut twin = [0u32; HalfedgeTable::MOST_HALFEDGES];
-    let mut vert = [0u32; HalfedgeTable::MOST_HALFEDGES];
-    let mut edge = [0u32; HalfedgeTable::MOST_HALFEDGES];
-    let mut points = [0i32; 3 * HalfedgeTable::MOST_VERTICES];
-    let mut creases = [0u8; HalfedgeTable::MOST_HALFEDGES];
-    let read = read_form(
-        file,
-        Form::One,
-        &mut twin,
-        &mut vert,
-        &mut edge,
-        &mut points,
-        &mut creases,
-    );
-    let answer = read.answer;
-    if answer.number() != 0 {
-        return Writing { answer, length: 0 };
-    }
-    let halfedges = read.halfedges;
-    let coordinates = 3 * read.vertices;
-    // form 1 has no creases: these are still zeros
-    let edges = rules::count_edges(&twin[..halfedges]);
-    writing::write_form_2(
-        &twin[..halfedges],
-        &vert[..halfedges],
-        &edge[..halfedges],
-        &points[..coordinates],
-        &creases[..edges],
-        Weight::Short,
-        lent,
-    )
+    move_file(file, Form::One, Form::Two, lent)
 }
 
 // The move back, of a file of form 2 whose crease numbers and weight are all 0.
 pub fn to_form_1(file: &[u8], lent: &mut [u8]) -> Writing
     ensures { λ r.
         let after = move Two One (now (file .entry)) (now (lent .entry)) in
+        ⌜ (wrote r ≡ after .answer) × (now (lent .exit) ≡ after .file) ⌝ }
+{
+    move_file(file, Form::Two, Form::One, lent)
+}
+
+// The move of a file from a form to a form.
+fn move_file(file: &[u8], from: Form, to: Form, lent: &mut [u8]) -> Writing
+    ensures { λ r.
+        let after = move from to (now (file .entry)) (now (lent .entry)) in
         ⌜ (wrote r ≡ after .answer) × (now (lent .exit) ≡ after .file) ⌝ }
 {
     let mut twin = [0u32; HalfedgeTable::MOST_HALFEDGES];
@@ -72,7 +51,7 @@ pub fn to_form_1(file: &[u8], lent: &mut [u8]) -> Writing
     let mut creases = [0u8; HalfedgeTable::MOST_HALFEDGES];
     let read = read_form(
         file,
-        Form::Two,
+        from,
         &mut twin,
         &mut vert,
         &mut edge,
@@ -85,8 +64,10 @@ pub fn to_form_1(file: &[u8], lent: &mut [u8]) -> Writing
     }
     let halfedges = read.halfedges;
     let coordinates = 3 * read.vertices;
-    let edges = read.edges;
-    write_old(
+    // of form 1 the creases are still zeros, of which the cage has one for each edge
+    let edges = rules::count_edges(&twin[..halfedges]);
+    write_form(
+        to,
         &twin[..halfedges],
         &vert[..halfedges],
         &edge[..halfedges],
@@ -134,9 +115,10 @@ fn read_form(
     )
 }
 
-// The file of form 1 of a cage, where crease numbers and weight are all 0. Then the check without creases answers as the one with them,
-// so that no cage is checked twice.
-fn write_old(
+// Writes the file of a cage in a form, for form 1 where crease numbers and weight are all 0. Then the check without creases answers as the
+// one with them, so that no cage is checked twice.
+fn write_form(
+    form: Form,
     twin: &[u32],
     vert: &[u32],
     edge: &[u32],
@@ -148,10 +130,13 @@ fn write_old(
     requires { ⌜ length (now creases) ≡ E (now twin) ⌝ }
     ensures { λ r.
         let c = tables (now (twin .entry)) (now (vert .entry)) (now (edge .entry)) in
-        let w = record { connectivity = c; points = now (points .entry); creases = now (creases .entry); weight = weight } in
-        let after = written (first (cageMoves One w (now (lent .entry)))) (Fields·file One w) (now (lent .entry)) in
+        let w : Cage = record { connectivity = c; points = now (points .entry); creases = now (creases .entry); weight = weight } in
+        let after = written (first (cageMoves form w (now (lent .entry)))) (Fields·file form w) (now (lent .entry)) in
         ⌜ (wrote r ≡ after .answer) × (now (lent .exit) ≡ after .file) ⌝ }
 {
+    if let Form::Two = form {
+        return writing::write_form_2(twin, vert, edge, points, creases, weight, lent);
+    }
     if !is_numbered(creases, weight) {
         return writing::write(twin, vert, edge, points, lent);
     }

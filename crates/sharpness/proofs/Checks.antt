@@ -1,5 +1,6 @@
 -- The checks with a crease table. They are done exactly where the plain ones are and the table passes 1 and 15: `checks-meaning` of rules 3
--- to 7, `tables-meaning` of 1 to 7. With all zeros they say what the plain ones do: `zeros-rules`, `zeros-checks`. Assumes nothing.
+-- to 7, `tables-meaning` of 1 to 7. With all zeros they say what the plain ones do: `zeros-rules`, `zeros-checks`. The first of
+-- two lists is by the first of each (`of-parts`). Assumes nothing.
 use Prim.Native.Nat.{ℕ, _<_}
 use mathlib.Core.Path.{_≡_, refl, sym, ap, _∙_}
 use mathlib.Core.Logic.{_↔_}
@@ -23,17 +24,17 @@ use Rattle.points.specs.Operations.{cageChecks, creasedChecks}
 
 -- ---- lists of checks
 
--- a list's first is by that of what follows one check, and by that of what stands before others
+-- a list's first is by that of what follows one check, and by those of its two parts
 after-one : (v : Verdict) (ws xs : List Verdict) → first ws ≡ first xs → first (v ∷ ws) ≡ first (v ∷ xs)
 unfolding first
 after-one v ws xs e = ap (λ w. whenDone v w v) e
 
-before-others : (vs us ws : List Verdict) → first vs ≡ first us → first (vs ++ ws) ≡ first (us ++ ws)
-before-others vs us ws e = by (ℕ-discrete (first us .number) 0)
+pub of-parts : (vs us ws xs : List Verdict) → first vs ≡ first us → first ws ≡ first xs → first (vs ++ ws) ≡ first (us ++ xs)
+of-parts vs us ws xs e d = by (ℕ-discrete (first us .number) 0)
   where
-    by : Dec (first us .number ≡ 0) → first (vs ++ ws) ≡ first (us ++ ws)
-    by (yes z) = first-more vs ws (e ∙ first-zero us z) ∙ sym (first-more us ws (first-zero us z))
-    by (no n) = first-refused-before ws vs (rw e n) ∙ e ∙ sym (first-refused-before ws us n)
+    by : Dec (first us .number ≡ 0) → first (vs ++ ws) ≡ first (us ++ xs)
+    by (yes z) = first-more vs ws (e ∙ first-zero us z) ∙ d ∙ sym (first-more us xs (first-zero us z))
+    by (no n) = first-refused-before ws vs (rw e n) ∙ e ∙ sym (first-refused-before xs us n)
 
 done-after : (v : Verdict) (vs : List Verdict) → first (v ∷ vs) ≡ DONE → first vs ≡ DONE
 done-after v vs e = done-both (v ∷ []) vs e .1
@@ -106,4 +107,4 @@ module _ (c : Tables) where
 
   pub zeros-checks : (points : List ℤ) (depth : ℕ) → first (creasedChecks c (noCreases (c .twin)) points depth) ≡ first (cageChecks c points depth)
   unfolding creasedChecks cageChecks
-  zeros-checks points depth = after-one _ _ _ (after-one _ _ _ (before-others _ _ _ (zeros-rules _)))
+  zeros-checks points depth = after-one _ _ _ (after-one _ _ _ (of-parts _ _ _ _ (zeros-rules _) refl))

@@ -1,7 +1,6 @@
 -- `ryebadger_read` puts the answer of reading in cells, which it fits, and leaves what that leaves.
 use borrow.Author.Needs.{needs}
 use mathlib.Core.Path.{sym, ap, subst, _∙_}
-use Rattle.tables.specs.Tables.{tables}
 use Rattle.answers.specs.Cells.{cells}
 use Rattle.answers.specs.Internal.Fitting.{Fitting}
 use Rattle.answers.proofs.Answers.{read-fits}
@@ -12,7 +11,7 @@ read-requires : tie.Need-read-requires
 read-requires c κs = search needs
 
 of-reading-requires : tie.Need-of-reading-requires
-of-reading-requires c κs = subst (λ s. Fitting (cells s)) (sym (c .before .before .before .before .before .before .before .read .ensures .0)) (read-fits _ _ _)
+of-reading-requires c κs = subst (λ s. Fitting (cells s)) (sym (c .before .before .before .before .before .before .before .before .before .read .ensures .0)) (read-fits _ _ _ _)
 
 same-length : tie.Need-same-length
 same-length c = search needs
@@ -26,8 +25,13 @@ same-length-3 c = search needs
 same-length-4 : tie.Need-same-length-4
 same-length-4 c = search needs
 
+same-length-5 : tie.Need-same-length-5
+same-length-5 c = search needs
+
 returns : tie.Need-returns
-returns c = let r = c .before .before .before .before .before .before .before .before .read .ensures in (c .of-reading .ensures ∙ ap cells (r .0), λ i. tables (r .1 i) (r .2 i) (r .3 i), r .4)
+returns c =
+    let r = c .before .before .before .before .before .before .before .before .before .before .read .ensures in
+    (c .of-reading .ensures ∙ ap cells (r .0), r .1, r .2, r .3)
 
 pub ryebadger-read-spec : {M : Type 1} → statement M
 ryebadger-read-spec =
@@ -39,4 +43,5 @@ ryebadger-read-spec =
     same-length-2
     same-length-3
     same-length-4
+    same-length-5
     returns)
