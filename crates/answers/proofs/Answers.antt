@@ -20,7 +20,7 @@ use Rattle.halfedges.specs.declared.table.Levels.{Levels}
 use Rattle.halfedges.specs.declared.table.Counted.{Counted}
 use Rattle.halfedges.specs.declared.corners.Corners.{Corners}
 use Rattle.halfedges.specs.Cage.{most-halfedges, most-vertices, most-depth, border, above, E, B}
-use Rattle.halfedges.specs.Refusals.{Verdict, DONE, SHAPE, LIMIT, VERTEX, UNUSED, FAN, POINT, TWIN, SHORT, FIELD, EXTRA, DOUBLED, NOT-OLD, told, whenDone, short, first, Said, said}
+use Rattle.halfedges.specs.Refusals.{Verdict, SHAPE, LIMIT, VERTEX, UNUSED, FAN, POINT, TWIN, SHORT, FIELD, EXTRA, DOUBLED, NOT-OLD, told, whenDone, short, first, Said, said}
 use Rattle.halfedges.specs.Internal.Counts.{AtMost}
 use Rattle.halfedges.specs.Counts.{countsAt, Hs, Es, Vs, seven, levels, noLevels, countShape, aboveLimit, countQuestion, counted}
 use Rattle.halfedges.specs.Corners.{cornerShape, cornerQuestion, cornered}
@@ -32,7 +32,7 @@ use Rattle.tables.specs.Check.{returned}
 use Rattle.points.specs.declared.weights.Weight.{Weight}
 use Rattle.points.specs.declared.weights.Weight.the-variants.{Short, Paper}
 use Rattle.points.specs.Weights.{weightNumber}
-use Rattle.points.specs.Operations.{vertices, cageChecks, creasedChecks, refineChecks, checkCreased, refineVerdict, refineCage}
+use Rattle.points.specs.Operations.{vertices, creasedChecks, refineChecks, checkCreased, refineVerdict, refineCage}
 use Rattle.triangles.specs.Plain.{twinTable}
 use Rattle.triangles.proofs.Opposite.{twins-long}
 use Rattle.building.specs.Building.{buildChecks, buildVerdict, buildCage}

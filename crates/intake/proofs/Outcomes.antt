@@ -5,17 +5,17 @@
 --     reply-refused, reply-answered     the reply
 --     accepts, accepted-values          the answer of the check to an accepted file, and its H and V (`accepted-H`, `accepted-V`)
 --     file-taken                        where its cage stands
-use Prim.Native.Nat.{ℕ, _*_, _≤_}
+use Prim.Native.Nat.{ℕ, _*_}
 use mathlib.Core.Path.{_≡_, sym, ap, _∙_}
 use mathlib.Core.Logic.{_≢_}
 use mathlib.Core.List.{List}
 use native.Mathlib.Decide.{ℕ-discrete}
 use native.Mathlib.Omega.{arith}
 use lib.IntN.{ℤ}
-use lib.ListN.{length, getD, replicate, take}
+use lib.ListN.{getD, replicate, take}
 use borrow.Author.Tests.{eq-eqb, ne-eqb}
 use Rattle.halfedges.specs.Cage.{E, most-halfedges}
-use Rattle.halfedges.specs.Refusals.{Verdict, DONE, told, first, said}
+use Rattle.halfedges.specs.Refusals.{DONE, told, first, said}
 use Rattle.halfedges.proofs.Checks.{first-zero}
 use Rattle.halfedges.proofs.Told.{zero-done}
 use Rattle.tables.specs.declared.check.Checked.{Checked}
@@ -23,7 +23,7 @@ use Rattle.tables.specs.Tables.{Tables}
 use Rattle.tables.specs.Check.{returned, checked}
 use Rattle.points.specs.Operations.{vertices, cageChecks, creasedChecks, checkCreased}
 use Rattle.reading.specs.declared.Reading.{Reading}
-use Rattle.reading.specs.Reading.{HIn, VIn, twinsIn, cageIn, fileChecks, both, readFile, reported}
+use Rattle.reading.specs.Reading.{HIn, VIn, cageIn, fileChecks, both, readFile, reported}
 use Rattle.reading.specs.Internal.Fronts.{Ample, Fronts}
 use Rattle.reading.proofs.Outcomes.{Left, twins-length, points-length}
 use Rattle.reading.proofs.Verdict.{edges-few}

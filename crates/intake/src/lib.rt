@@ -48,7 +48,8 @@ fn check_read(
     points: &[i32],
     creases: &[u8],
 ) -> Checked
-    requires { ⌜ (told (reading .answer) .number ≡ 0 → Held reading (tables (now twin) (now vert) (now edge)) (now points) (now creases)) ⌝ }
+    requires { ⌜ (told (reading .answer) .number ≡ 0
+        → Held reading (tables (now twin) (now vert) (now edge)) (now points) (now creases)) ⌝ }
     ensures { λ r.
         ⌜ Check·checked r
         ≡ readChecked reading (tables (now (twin .entry)) (now (vert .entry)) (now (edge .entry))) (now (points .entry))

@@ -2,7 +2,7 @@
 --     moved-says       what is told and what stands at the front is the reply, within what was lent (`says-counts`)
 --     front-moved      a buffer that holds more than the longest file that reads holds enough of any: its bytes get the reply of the whole
 use Prim.Native.Nat.{ℕ, _≤_, _<_}
-use mathlib.Core.Path.{_≡_, refl, sym, ap, _∙_}
+use mathlib.Core.Path.{_≡_, sym, ap, _∙_}
 use mathlib.Core.Logic.{_≢_}
 use mathlib.Core.List.{List, [], _∷_}
 use native.Mathlib.Decide.{ℕ-discrete, decLt}

@@ -39,7 +39,7 @@ pub fn to_form_1(file: &[u8], lent: &mut [u8]) -> Writing
 }
 
 // The move of a file from a form to a form.
-fn move_file(file: &[u8], from: Form, to: Form, lent: &mut [u8]) -> Writing
+pub fn move_file(file: &[u8], from: Form, to: Form, lent: &mut [u8]) -> Writing
     ensures { λ r.
         let after = move from to (now (file .entry)) (now (lent .entry)) in
         ⌜ (wrote r ≡ after .answer) × (now (lent .exit) ≡ after .file) ⌝ }

@@ -1,7 +1,7 @@
 -- The file's checks once the first payload has passed: a table's field that does not pass is the answer (`tables-stop`), and after them
 -- comes what the form has (`plain-left`, `creased-left`). Where they pass the tables are whole (`tables-whole`). Assumes nothing.
 use Prim.Native.Nat.{ℕ, _+_, _*_, _≤_}
-use mathlib.Core.Path.{_≡_, sym, ap, _∙_}
+use mathlib.Core.Path.{_≡_}
 use mathlib.Core.Logic.{_≢_}
 use mathlib.Core.List.{List, [], _∷_, _++_}
 use native.Mathlib.Omega.{arith}

@@ -18,7 +18,7 @@ use Rattle.halfedges.specs.Cage.{E, most-halfedges}
 use Rattle.halfedges.specs.Refusals.{DONE, told, given, short, first, said}
 use Rattle.halfedges.proofs.Checks.{first-zero, first-more, first-refused-before}
 use Rattle.halfedges.proofs.Told.{zero-done}
-use Rattle.tables.specs.Tables.{Tables, tables}
+use Rattle.tables.specs.Tables.{Tables}
 use Rattle.levels.specs.Refining.{shortTables}
 use Rattle.cagefile.specs.declared.fields.Form.{Form}
 use Rattle.cagefile.specs.declared.fields.Form.the-variants.{One, Two}
@@ -27,7 +27,7 @@ use Rattle.reading.specs.Reading.{HIn, VIn, EIn, edgesFor, formOf, table
 use Rattle.reading.specs.Internal.Sound.{Sound}
 use Rattle.reading.specs.Internal.Fronts.{Ample, Fronts}
 use Rattle.reading.proofs.Verdict.{known-both, checks-sound, edges-few, few-creases}
-use Rattle.reading.proofs.Outcomes.{valuesIn, allRead, Left, read-done, twins-length, verts-length, edges-length, creases-length, points-length}
+use Rattle.reading.proofs.Outcomes.{valuesIn, Left, read-done, twins-length, verts-length, edges-length, creases-length, points-length}
 
 module _ (f : List ℕ) (lent : Tables) (lentPoints : List ℤ) (lentCreases : List ℕ) (ample : Ample lent lentPoints lentCreases) where
   room-passes : Sound f → first (shortRoom f lent lentPoints lentCreases) ≡ DONE

@@ -9,7 +9,7 @@ use Prim.Native.Nat.{ℕ, _+_, _*_, _≤_}
 use mathlib.Core.Path.{_≡_, refl, sym, ap, _∙_}
 use mathlib.Core.Logic.{_≢_}
 use mathlib.Core.Bool.{false, true≢false}
-use mathlib.Core.List.{List, [], _∷_, _++_}
+use mathlib.Core.List.{List, [], _∷_}
 use native.Mathlib.Decide.{ℕ-discrete}
 use native.Mathlib.Omega.{arith}
 use lib.IntN.{ℤ}
@@ -23,7 +23,7 @@ use Rattle.tables.specs.Tables.{Tables}
 use Rattle.levels.specs.Refining.{shortTables}
 use Rattle.cagefile.specs.declared.fields.Form.{Form}
 use Rattle.cagefile.specs.declared.fields.Form.the-variants.{One, Two}
-use Rattle.cagefile.specs.Fields.{number, Head, opening, tableHeads, laterHeads, heads}
+use Rattle.cagefile.specs.Fields.{number, opening, tableHeads, laterHeads, heads}
 use Rattle.cagefile.specs.Numbers.{u16At}
 use Rattle.cagefile.proofs.Fits.{edges-at-most, extra}
 use Rattle.reading.specs.Reading.{formIn, HIn, VIn, EIn, edgesFor, formOf, twinsIn, headsIn, payloadAt, payload, past, fieldChecks, fieldsChecks, otherForm, openingAsked, twinsAsked, weightAsked, laterAsked, fileChecks, both, shortRoom, readVerdict}

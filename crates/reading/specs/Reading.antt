@@ -15,7 +15,7 @@ use Rattle.tables.specs.Rules.{badTwin}
 use Rattle.levels.specs.Refining.{shortTables, filledTables}
 use Rattle.creases.specs.Creases.{noCreases}
 use Rattle.points.specs.declared.weights.Weight.{Weight}
-use Rattle.points.specs.declared.weights.Weight.the-variants.{Short, Paper}
+use Rattle.points.specs.declared.weights.Weight.the-variants.{Short}
 use Rattle.points.specs.Weights.{weightOf, weightNumber}
 use Rattle.cagefile.specs.declared.fields.Form.{Form}
 use Rattle.cagefile.specs.declared.fields.Form.the-variants.{One, Two}

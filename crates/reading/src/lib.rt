@@ -6,7 +6,7 @@ ghost use Rattle.laws.specs.Parts.{inFront};
 ghost use Rattle.tables.specs.Tables.{tables};
 ghost use Rattle.points.specs.Weights.{weightNumber};
 ghost use Rattle.reading.specs.Reading.{HIn, VIn, EIn, twinsIn, vertsIn, edgesIn, creasesRead, pointsIn, weightIn, readFile, reported};
-ghost use Rattle.reading.specs.Internal.Sound.{Sound, RoomFor};
+ghost use Rattle.reading.specs.Internal.Sound.{Sound};
 use cagefile::fields;
 use halfedges::answer::Answer;
 

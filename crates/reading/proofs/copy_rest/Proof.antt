@@ -1,8 +1,7 @@
 -- `copy_rest` hands the points, and in form 2 first the creases, to a copier, at the offsets where the definition reads them.
 use borrow.Author.Needs.{needs}
 use Prim.Native.Nat.{ℕ, _+_, _*_, _≤_}
-use mathlib.Core.Path.{_≡_, refl, sym, ap, _∙_}
-use mathlib.Core.Bool.{true, false}
+use mathlib.Core.Path.{_≡_, sym, ap, _∙_}
 use mathlib.Core.List.{List}
 use native.Mathlib.Omega.{arith}
 use lib.IntN.{ℤ}
@@ -13,8 +12,7 @@ use Rattle.laws.specs.Parts.{inFront}
 use Rattle.cagefile.specs.declared.fields.Form.the-variants.{One, Two}
 use Rattle.cagefile.proofs.Fits.{extra}
 use Rattle.cagefile.specs.Numbers.{u32At, signed}
-use Rattle.halfedges.specs.Cage.{E}
-use Rattle.reading.specs.Reading.{HIn, VIn, EIn, formOf, twinsIn, creasesRead, pointsIn}
+use Rattle.reading.specs.Reading.{HIn, VIn, EIn, formOf}
 use Rattle.reading.specs.Internal.Sound.{Sound}
 use Rattle.reading.proofs.Verdict.{form-is, form-other, sound-length}
 use Rattle.reading.proofs.Places.{creases-at, no-creases, plain-points, creased-points, plain-weight, creased-weight}

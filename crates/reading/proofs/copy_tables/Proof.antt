@@ -1,6 +1,6 @@
 -- `copy_tables` hands each payload to a copier, at the offset where the definition reads it.
 use borrow.Author.Needs.{needs}
-use mathlib.Core.Path.{_≡_, ap, _∙_}
+use mathlib.Core.Path.{ap, _∙_}
 use Rattle.laws.specs.Parts.{inFront}
 use Rattle.reading.proofs.Places.{twins-at, verts-at, edges-at}
 use Rattle.reading.proofs.copy_tables.Statement.{statement}

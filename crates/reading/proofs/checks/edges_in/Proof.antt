@@ -5,10 +5,10 @@ use mathlib.Core.Path.{_≡_, sym, ap, _∙_}
 use native.Mathlib.Omega.{arith}
 use lib.ListN.{length}
 use borrow.Author.Tests.{eqb-true, eqb-false}
-use Rattle.cagefile.specs.declared.fields.Form.the-variants.{One, Two}
+use Rattle.cagefile.specs.declared.fields.Form.the-variants.{Two}
 use Rattle.cagefile.specs.Numbers.{u16At}
 use Rattle.halfedges.specs.Cage.{E}
-use Rattle.reading.specs.Reading.{EIn, edgesFor, formOf, twinsIn}
+use Rattle.reading.specs.Reading.{edgesFor, formOf, twinsIn}
 use Rattle.reading.proofs.Verdict.{form-is, form-other, edges-few, creases-head, creases-whole, sound-length}
 use Rattle.reading.proofs.checks.edges_in.Statement.{statement}
 use Rattle.reading.proofs.checks.edges_in.Tie as tie

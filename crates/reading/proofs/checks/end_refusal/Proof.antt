@@ -1,11 +1,11 @@
 -- `end_refusal` looks at the end field, and then whether anything stands past it.
 use borrow.Author.Needs.{needs}
-use Prim.Native.Nat.{ℕ, _+_}
+use Prim.Native.Nat.{_+_}
 use mathlib.Core.Path.{_≡_, sym, ap, _∙_}
 use mathlib.Core.List.{[], _∷_}
 use native.Mathlib.Nat.{add-zero}
 use borrow.Author.Tests.{lt-ltb, le-ltb}
-use Rattle.halfedges.specs.Refusals.{Verdict, given, first}
+use Rattle.halfedges.specs.Refusals.{given, first}
 use Rattle.halfedges.proofs.Checks.{first-stops, first-passes}
 use Rattle.reading.specs.Reading.{fieldsChecks}
 use Rattle.reading.proofs.checks.end_refusal.Statement.{statement}

@@ -5,12 +5,12 @@ use mathlib.Core.Path.{_≡_, sym, ap, ap₂, _∙_}
 use mathlib.Core.List.{List, [], _∷_, _++_}
 use native.Mathlib.Omega.{arith}
 use lib.ListN.{length}
-use Rattle.halfedges.specs.Cage.{E, most-halfedges, most-vertices}
+use Rattle.halfedges.specs.Cage.{E, most-halfedges}
 use Rattle.halfedges.specs.Refusals.{Verdict, DONE, told, first}
-use Rattle.halfedges.proofs.Checks.{first-zero, first-more, first-passes, first-stops}
+use Rattle.halfedges.proofs.Checks.{first-zero, first-more, first-stops}
 use Rattle.cagefile.specs.declared.fields.Form.the-variants.{One, Two}
 use Rattle.cagefile.specs.Fields.{opening, tableHeads, laterHeads}
-use Rattle.reading.specs.Reading.{HIn, VIn, formOf, twinsIn, headsIn, past, fieldChecks, nothing, openingAsked, twinsAsked, weightAsked, laterAsked, fieldsChecks, frontToBack, both, fileChecks}
+use Rattle.reading.specs.Reading.{HIn, formOf, twinsIn, headsIn, past, fieldChecks, nothing, openingAsked, twinsAsked, weightAsked, laterAsked, fieldsChecks, frontToBack, both, fileChecks}
 use Rattle.reading.specs.Internal.Sound.{frontChecks, TablesWhole}
 use Rattle.reading.proofs.FieldLaws.{field-at}
 use Rattle.reading.proofs.AfterTables.{tables-whole, tables-stop, plain-left, creased-left}

@@ -4,7 +4,6 @@ use mathlib.Core.Path.{_≡_, refl, sym, ap, _∙_}
 use mathlib.Core.Bool.{Bool, true, false, not, _&&_}
 use lib.Dec.{eqb}
 use borrow.Author.Tests.{eq-eqb, ne-eqb}
-use Rattle.reading.specs.Reading.{formIn, otherForm, both}
 use Rattle.reading.proofs.checks.other_form.Statement.{statement}
 use Rattle.reading.proofs.checks.other_form.Tie as tie
 

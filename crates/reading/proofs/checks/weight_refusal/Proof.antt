@@ -5,7 +5,7 @@ use mathlib.Core.Path.{_≡_, sym, _∙_}
 use mathlib.Core.List.{_++_}
 use native.Mathlib.Omega.{arith}
 use borrow.Author.Tests.{lt-ltb, le-ltb}
-use Rattle.halfedges.specs.Refusals.{DONE, given, first}
+use Rattle.halfedges.specs.Refusals.{given, first}
 use Rattle.halfedges.proofs.Checks.{first-zero, first-stops, first-passes}
 use Rattle.cagefile.specs.Fields.{Head}
 use Rattle.reading.specs.Reading.{fieldChecks, weightAsked}
