@@ -48,7 +48,15 @@ pub fn take(name: &str, file: &[u8]) -> Taken {
     let bytes = file.len().min(LONGEST_FORM_2);
     let (h, coordinates) = (bytes / 6, bytes / 4);
     let tables = [h + 1, h + 2, h + 3, coordinates + 4, h + 5];
-    let moved = bytes + h + 13;
+    take_into(name, file, tables, bytes + h + 13)
+}
+
+/// Takes a file with no room at all, which is asked for after all else of it.
+pub fn take_without_room(name: &str, file: &[u8]) -> Taken {
+    take_into(name, file, [0; 5], 0)
+}
+
+fn take_into(name: &str, file: &[u8], tables: [usize; 5], moved: usize) -> Taken {
     Taken {
         read: assert_alike(name, &Question::Read(file, tables)),
         to_form_2: assert_alike(name, &Question::ToForm2(file, moved)),

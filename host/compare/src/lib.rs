@@ -16,7 +16,9 @@ mod suite;
 mod vertices;
 
 pub use asked::{chosen, handed, lent, owned, Archive, Operations, SafeCrate, SecondProgram};
-pub use files::{as_read, assert_written, files_of, lengths_of, stl_length, take, Taken};
+pub use files::{
+    as_read, assert_written, files_of, lengths_of, stl_length, take, take_without_room, Taken,
+};
 pub use outcome::{first_difference, Difference, Outcome};
 pub use process::{repository, run};
 pub use question::{marked_tables, Question, PLACES, WEIGHTS};

@@ -5,7 +5,8 @@
 use std::collections::HashSet;
 
 use compare::{
-    accepted, as_read, assert_alike, files_of, lengths_of, named, take, Question, PLACES,
+    accepted, as_read, assert_alike, files_of, lengths_of, named, take, take_without_room,
+    Question, Taken, PLACES,
 };
 use second::draw::Draw;
 use second::file::Form;
@@ -42,12 +43,6 @@ fn whole_files() -> Vec<Whole> {
     all
 }
 
-/// The longest of them that has this form.
-fn longest(files: &[Whole], form: Form) -> Option<&Whole> {
-    let of_form = files.iter().filter(|whole| whole.form == form);
-    of_form.max_by_key(|whole| whole.file.len())
-}
-
 impl Whole {
     fn is_large(&self) -> bool {
         self.file.len() > 1_600
@@ -55,8 +50,8 @@ impl Whole {
 
     /// The file cut to this length, which is refused by 10 at the last head that
     /// there is something of.
-    fn assert_cut(&self, length: usize) {
-        let taken = take(&self.name, &self.file[..length]);
+    fn assert_cut(&self, length: usize, taken_by: fn(&str, &[u8]) -> Taken) {
+        let taken = taken_by(&self.name, &self.file[..length]);
         let field = self.heads.partition_point(|&head| head <= length) - 1;
         let expected = (10, self.heads[field] as u64);
         taken.assert_refused(&self.name, self.form, expected);
@@ -69,12 +64,12 @@ impl Whole {
                 let ends = head..self.file.len().min(head + 3);
                 changed[ends.clone()] != self.file[ends]
             };
-            let taken = take(&self.name, &changed);
+            let taken = take_without_room(&self.name, &changed);
             match self.heads.iter().find(is_changed) {
                 Some(&head) => {
                     taken.assert_refused(&self.name, self.form, (11, head as u64));
                 }
-                None => assert_eq!(taken.read.verdict(), (0, 0), "{}", self.name),
+                None => assert_eq!(taken.read.verdict(), (9, 1), "{}", self.name),
             }
         }
     }
@@ -119,30 +114,40 @@ fn every_file_of_the_suite() {
     assert_eq!(numbers, HashSet::from(every));
 }
 
-/// Every small one, and the longest of form 2, which has each field.
 #[test]
-fn files_cut_at_every_byte() {
-    let files = whole_files();
-    let small = files.iter().filter(|whole| !whole.is_large());
-    for whole in small.chain(longest(&files, Form::Two)) {
+fn small_files_cut_at_every_byte() {
+    for whole in whole_files().iter().filter(|whole| !whole.is_large()) {
         for length in 0..whole.file.len() {
-            whole.assert_cut(length);
+            whole.assert_cut(length, take);
         }
     }
 }
 
-/// And at drawn bytes.
 #[test]
-fn large_files_cut_at_each_head_and_payload_and_beside() {
-    let draw = &mut Draw::new(34);
-    for whole in whole_files().iter().filter(|whole| whole.is_large()) {
-        let end = whole.file.len();
-        let beside = |&head: &usize| head.saturating_sub(3)..=head + 5;
-        let drawn = (0..200).map(|_| draw.place(end));
-        for length in whole.heads.iter().flat_map(beside).chain(drawn) {
-            if length < end {
-                whole.assert_cut(length);
-            }
+fn large_files_of_form_1_cut_at_every_byte() {
+    assert_large_cut_at_every_byte(Form::One);
+}
+
+#[test]
+fn large_files_of_form_2_cut_at_every_byte() {
+    assert_large_cut_at_every_byte(Form::Two);
+}
+
+/// Beside each head and each payload with room, elsewhere without any.
+fn assert_large_cut_at_every_byte(form: Form) {
+    let files = whole_files();
+    for whole in files.iter().filter(|whole| whole.is_large()) {
+        if whole.form != form {
+            continue;
+        }
+        for length in 0..whole.file.len() {
+            let is_beside = |&head: &usize| (head.saturating_sub(3)..=head + 5).contains(&length);
+            let taken_by = if whole.heads.iter().any(is_beside) {
+                take
+            } else {
+                take_without_room
+            };
+            whole.assert_cut(length, taken_by);
         }
     }
 }
@@ -159,14 +164,23 @@ fn one_byte_added_to_every_file() {
     }
 }
 
-/// Of every twelfth file, and of the longest in either form.
 #[test]
-fn every_byte_of_the_heads_changed_to_every_value() {
-    let files = whole_files();
-    let small = files.iter().filter(|whole| !whole.is_large());
-    let longest = [Form::One, Form::Two].map(|form| longest(&files, form));
-    for whole in small.step_by(12).chain(longest.into_iter().flatten()) {
-        whole.assert_every_head_byte();
+fn every_byte_of_form_1s_heads_changed_to_every_value() {
+    assert_every_head_byte_changed(Form::One);
+}
+
+#[test]
+fn every_byte_of_form_2s_heads_changed_to_every_value() {
+    assert_every_head_byte_changed(Form::Two);
+}
+
+/// Of one file of each H, V and E, which is one of each list of heads.
+fn assert_every_head_byte_changed(form: Form) {
+    let mut seen = HashSet::new();
+    for whole in whole_files() {
+        if whole.form == form && seen.insert(whole.heads.clone()) {
+            whole.assert_every_head_byte();
+        }
     }
 }
 
