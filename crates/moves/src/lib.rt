@@ -96,14 +96,7 @@ fn read_form(
 {
     let answer = reading::checks::form_refusal(file, form);
     if answer.number() != 0 {
-        return Reading {
-            answer,
-            form: 0,
-            halfedges: 0,
-            vertices: 0,
-            edges: 0,
-            weight: 0,
-        };
+        return Reading::refused(answer);
     }
     reading::read(
         file,

@@ -40,15 +40,16 @@ module _ (f : List ℕ) (lent : Tables) (lentPoints : List ℤ) (lentCreases : L
   unfolding readFile said filledTables filled
   read-done e = rw e
 
-  pub done-left : readVerdict f lent lentPoints lentCreases ≡ DONE → (g h v e w : ℕ) → g ≡ number (formOf f) → h ≡ HIn f → v ≡ VIn f → e ≡ EIn f → w ≡ weightNumber (weightIn f)
+  pub done-left : readVerdict f lent lentPoints lentCreases ≡ DONE → (answer : Said (List ℕ)) (w : ℕ)
+      → answer ≡ record { verdict = DONE; values = number (formOf f) ∷ HIn f ∷ VIn f ∷ EIn f ∷ w ∷ [] } → w ≡ weightNumber (weightIn f)
       → (now : Tables) (points : List ℤ) (creases : List ℕ) → now ≡ allRead f lent lentPoints lentCreases .lent → points ≡ inFront (pointsIn f) lentPoints → creases ≡ inFront (creasesRead f) lentCreases
-      → Left (readFile f lent lentPoints lentCreases) (record { verdict = DONE; values = g ∷ h ∷ v ∷ e ∷ w ∷ [] }) now points creases
-  done-left d g h v e w a b c i j now points creases t u k = rw (read-done d, a, b, c, i, j, t, u, k) (refl, refl, refl, refl)
+      → Left (readFile f lent lentPoints lentCreases) answer now points creases
+  done-left d answer w a b now points creases t u k = rw (read-done d, a, b, t, u, k) (refl, refl, refl, refl)
 
-  pub refused-left : (v : Verdict) → v ≡ readVerdict f lent lentPoints lentCreases
-      → v .number ≢ 0 → Left (readFile f lent lentPoints lentCreases) (record { verdict = v; values = 0 ∷ 0 ∷ 0 ∷ 0 ∷ 0 ∷ [] }) lent lentPoints lentCreases
+  pub refused-left : (v : Verdict) → v ≡ readVerdict f lent lentPoints lentCreases → v .number ≢ 0
+      → (answer : Said (List ℕ)) → answer ≡ record { verdict = v; values = 0 ∷ 0 ∷ 0 ∷ 0 ∷ 0 ∷ [] } → Left (readFile f lent lentPoints lentCreases) answer lent lentPoints lentCreases
   unfolding readFile said filledTables filled
-  refused-left v e n = rw (← e, ne-eqb _ _ n) (refl, refl, refl, refl)
+  refused-left v e n answer a = rw (a, ← e, ne-eqb _ _ n) (refl, refl, refl, refl)
 
 module _ (f : List ℕ) where
   pub twins-length : length (twinsIn f) ≡ HIn f

@@ -1,11 +1,14 @@
 // Reading a cage file of either form into lent tables: all checks first, then the copies.
 ghost use mathlib.Core.Path.{_≡_};
+ghost use mathlib.Core.List.{[], _∷_};
 ghost use Prim.Native.Nat.{_+_, _*_, _≤_};
 ghost use lib.ListN.{length};
 ghost use Rattle.laws.specs.Parts.{inFront};
+ghost use Rattle.halfedges.specs.Refusals.{DONE, told};
 ghost use Rattle.tables.specs.Tables.{tables};
 ghost use Rattle.points.specs.Weights.{weightNumber};
-ghost use Rattle.reading.specs.Reading.{HIn, VIn, EIn, twinsIn, vertsIn, edgesIn, creasesRead, pointsIn, weightIn, readFile, reported};
+ghost use Rattle.cagefile.specs.Fields.{number};
+ghost use Rattle.reading.specs.Reading.{HIn, VIn, EIn, formOf, twinsIn, vertsIn, edgesIn, creasesRead, pointsIn, weightIn, readFile, reported};
 ghost use Rattle.reading.specs.Internal.Sound.{Sound};
 use cagefile::fields;
 use halfedges::answer::Answer;
@@ -22,6 +25,39 @@ pub struct Reading {
     pub vertices: usize,
     pub edges: usize,
     pub weight: u32,
+}
+
+impl Reading {
+    // A refusal: besides number and place everything is zero.
+    pub fn refused(answer: Answer) -> Reading
+        ensures { λ r. ⌜ reported r ≡ record { verdict = told answer; values = 0 ∷ 0 ∷ 0 ∷ 0 ∷ 0 ∷ [] } ⌝ }
+    {
+        Reading {
+            answer,
+            form: 0,
+            halfedges: 0,
+            vertices: 0,
+            edges: 0,
+            weight: 0,
+        }
+    }
+
+    // Done, with the numbers of a file that reads and its weight's number.
+    fn of(file: &[u8], weight: u32) -> Reading
+        requires { ⌜ Sound (now file) ⌝ }
+        ensures { λ r.
+            let f = now (file .entry) in
+            ⌜ reported r ≡ record { verdict = DONE; values = number (formOf f) ∷ HIn f ∷ VIn f ∷ EIn f ∷ weight ∷ [] } ⌝ }
+    {
+        Reading {
+            answer: Answer::Done,
+            form: checks::form_in(file),
+            halfedges: checks::halfedges_in(file),
+            vertices: checks::vertices_in(file),
+            edges: checks::edges_in(file),
+            weight,
+        }
+    }
 }
 
 // The payloads of the three tables.
@@ -80,27 +116,9 @@ pub fn read(
 {
     let answer = checks::refusal(file, &*twin, &*vert, &*edge, &*points, &*creases);
     if answer.number() != 0 {
-        return Reading {
-            answer,
-            form: 0,
-            halfedges: 0,
-            vertices: 0,
-            edges: 0,
-            weight: 0,
-        };
+        return Reading::refused(answer);
     }
-    let form = checks::form_in(file);
-    let halfedges = checks::halfedges_in(file);
-    let vertices = checks::vertices_in(file);
-    let edges = checks::edges_in(file);
     copy_tables(file, &mut *twin, &mut *vert, &mut *edge);
     let weight = copy_rest(file, &mut *points, &mut *creases);
-    Reading {
-        answer: Answer::Done,
-        form,
-        halfedges,
-        vertices,
-        edges,
-        weight,
-    }
+    Reading::of(file, weight)
 }

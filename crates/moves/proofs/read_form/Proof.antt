@@ -1,9 +1,11 @@
 -- `read_form` looks at the first field, and then reads: the form that is asked for is one of the two.
 use borrow.Author.Needs.{needs}
 use Prim.Native.Nat.{ℕ}
-use mathlib.Core.Path.{sym, _∙_}
+use mathlib.Core.Path.{sym, ap, _∙_}
+use mathlib.Core.Logic.{_≢_}
 use mathlib.Core.List.{List}
 use lib.IntN.{ℤ}
+use Rattle.halfedges.specs.Refusals.{told}
 use Rattle.tables.specs.Tables.{Tables, tables}
 use Rattle.reading.proofs.Fronts.{ample-told, ample-fronts}
 use Rattle.moves.proofs.FormFirst.{form-refused, form-held}
@@ -16,11 +18,15 @@ form-refusal-requires c κs = search needs
 number-requires : tie.Need-number-requires
 number-requires c κs = search needs
 
+refused-requires : tie.Need-refused-requires
+refused-requires c κs = search needs
+
 returns : tie.Need-returns
 returns c =
-    let n = c .before in
-    let shown = n .before .form-refusal in
-    (form-refused _ _ _ (shown .ensures) (λ z. c .if1 .taken (n .number .ensures ∙ z)), λ z. absurd (c .if1 .taken (n .number .ensures ∙ z)))
+    let n = c .before .before in
+    let answer = ap (λ a. a .verdict) (c .refused .ensures) in
+    let stopped : told (n .before .form-refusal .result) .number ≢ 0 = λ z. c .before .if1 .taken (n .number .ensures ∙ z) in
+    (answer ∙ form-refused _ _ _ (n .before .form-refusal .ensures) stopped, λ z. absurd (stopped (sym (ap (λ v. v .number) answer) ∙ z)))
 
 read-requires : tie.Need-read-requires
 read-requires c κs = search needs
@@ -61,6 +67,7 @@ read-form-spec =
     (tie.spec
     form-refusal-requires
     number-requires
+    refused-requires
     returns
     read-requires
     same-length

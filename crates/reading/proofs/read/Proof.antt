@@ -37,14 +37,18 @@ module _ (c : tie.Else1) where
   room : RoomFor (f start) (lent start) (start .args .points .now) (start .args .creases .now)
   room = read-room _ _ _ _ done
 
-  long : 24 + 6 * HIn (f start) + 12 * VIn (f start) ≤ length (f start)
-  long = omega (arith, sound-length _ sound)
+-- where the tables were copied, once the points are about to be
+abbrev copied : tie.After-copy-rest-arg2 → tie.After-copy-tables
+copied c = c .before .before .before .before .before .before .before .before
 
 refusal-requires : tie.Need-refusal-requires
 refusal-requires c κs = search needs
 
 number-requires : tie.Need-number-requires
 number-requires c κs = search needs
+
+refused-requires : tie.Need-refused-requires
+refused-requires c κs = search needs
 
 same-length : tie.Need-same-length
 same-length c = search needs
@@ -62,29 +66,22 @@ same-length-5 : tie.Need-same-length-5
 same-length-5 c = search needs
 
 returns : tie.Need-returns
-returns c = refused-left _ _ _ _ _ (c .before .before .refusal .ensures) (λ z. c .if1 .taken (c .before .number .ensures ∙ z))
-
-form-in-requires : tie.Need-form-in-requires
-form-in-requires c κs = omega (arith, long c)
-
-halfedges-in-requires : tie.Need-halfedges-in-requires
-halfedges-in-requires c κs = omega (arith, long (c .before))
-
-vertices-in-requires : tie.Need-vertices-in-requires
-vertices-in-requires c κs = omega (arith, long (c .before .before))
-
-edges-in-requires : tie.Need-edges-in-requires
-edges-in-requires c κs = sound (c .before .before .before)
+returns c =
+    let n = c .before .before in
+    refused-left _ _ _ _ _ (n .before .refusal .ensures) (λ z. c .before .if1 .taken (n .number .ensures ∙ z)) _ (c .refused .ensures)
 
 copy-tables-requires : tie.Need-copy-tables-requires
 copy-tables-requires c κs =
-    let d = c .before .before .before .before .before .before .before in
-    (omega (arith, long d), room d .twin, room d .vert, room d .edge)
+    let d = c .before .before .before in
+    (omega (arith, sound-length _ (sound d)), room d .twin, room d .vert, room d .edge)
 
 copy-rest-requires : tie.Need-copy-rest-requires
 copy-rest-requires c κs =
-    let d = c .before .before .before .before .before .before .before .before .before .before .before .before .before .before .before .before in
+    let d = copied c .before .before .before .before in
     (sound d, room d .coordinates, room d .creases)
+
+of-requires : tie.Need-of-requires
+of-requires c κs = sound (copied (c .before .before .before .before) .before .before .before .before)
 
 same-length-6 : tie.Need-same-length-6
 same-length-6 c = search needs
@@ -103,16 +100,11 @@ same-length-10 c = search needs
 
 returns-2 : tie.Need-returns-2
 returns-2 c =
-    let rest = c .before .before .before in
-    let copied = rest .before .before .before .before .before .before .before .before .before in
-    let e = copied .before .before .before .before in
-    let v = e .before in
-    let h = v .before in
-    let g = h .before in
-    let d = g .before in
-    let t = copied .copy-tables .ensures in
+    let rest = c .before .before .before .before in
+    let tables-there = copied (rest .before) in
+    let t = tables-there .copy-tables .ensures in
     let r = rest .copy-rest .ensures in
-    done-left _ _ _ _ (done d) _ _ _ _ _ (g .form-in .ensures ∙ sound d .known) (h .halfedges-in .ensures .0) (v .vertices-in .ensures .0) (e .edges-in .ensures .0) (r .0) _ _ _
+    done-left _ _ _ _ (done (tables-there .before .before .before .before)) _ _ (c .of .ensures) (r .0) _ _ _
     (λ i. tables (t .0 i) (t .1 i) (t .2 i)) (r .1) (r .2)
 
 pub read-spec : {M : Type 1} → statement M
@@ -121,18 +113,16 @@ read-spec =
     (tie.spec
     refusal-requires
     number-requires
+    refused-requires
     same-length
     same-length-2
     same-length-3
     same-length-4
     same-length-5
     returns
-    form-in-requires
-    halfedges-in-requires
-    vertices-in-requires
-    edges-in-requires
     copy-tables-requires
     copy-rest-requires
+    of-requires
     same-length-6
     same-length-7
     same-length-8
