@@ -41,8 +41,11 @@ use Rattle.cagefile.specs.declared.fields.Form.{Form}
 use Rattle.cagefile.specs.declared.fields.Form.the-variants.{One, Two}
 use Rattle.cagefile.specs.Fields.{Cage, number, Head, opening, tableHeads, laterHeads, heads, file}
 use Rattle.cagefile.proofs.Fits.{Fits, Numbered, edges-at-most, file-length}
-use Rattle.reading.specs.Reading.{HIn, VIn, formOf, edgesFor, twinsIn, headsIn, weightIn, cageIn, past, fieldChecks, fieldsChecks, Asked, nothing, openingAsked, twinsAsked, weightAsked, laterAsked, frontToBack, fileChecks, both, shortRoom, readVerdict, readFile}
-use Rattle.reading.proofs.Verdict.{opening-kept, read-sound, edges-few, few-creases}
+use Rattle.filechecks.specs.Contents.{HIn, VIn, formOf, edgesFor, twinsIn, headsIn, weightIn, cageIn, past}
+use Rattle.filechecks.specs.FileChecks.{fieldChecks, fieldsChecks, Asked, nothing, openingAsked, twinsAsked, weightAsked, laterAsked, frontToBack, fileChecks, both}
+use Rattle.reading.specs.Reading.{shortRoom, readVerdict, readFile}
+use Rattle.filechecks.proofs.Sound.{opening-kept, edges-few, few-creases}
+use Rattle.reading.proofs.Verdict.{read-sound}
 use Rattle.reading.proofs.Outcomes.{valuesIn}
 use Rattle.writing.specs.Writing.{writeChecks, writeVerdict, written, writeFile}
 use Rattle.writing.proofs.Accepted.{accepted-fits, creased-kept, write-fits as write-kept}

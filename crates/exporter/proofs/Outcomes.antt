@@ -16,8 +16,8 @@ use Rattle.halfedges.specs.Cage.{most-halfedges, most-vertices, F}
 use Rattle.halfedges.specs.Refusals.{told}
 use Rattle.tables.specs.declared.check.Checked.{Checked}
 use Rattle.tables.specs.Check.{returned, checked}
-use Rattle.reading.specs.Reading.{cageIn}
-use Rattle.reading.proofs.Outcomes.{twins-length, verts-length, points-length}
+use Rattle.filechecks.specs.Contents.{cageIn}
+use Rattle.filechecks.proofs.Lengths.{twins-length, verts-length, points-length}
 use Rattle.text.specs.declared.replies.Written.{Written}
 use Rattle.text.specs.Replies.{refused}
 use Rattle.text.specs.Internal.Put.{Replied}

@@ -9,7 +9,7 @@ use Rattle.laws.specs.Parts.{inFront}
 use Rattle.halfedges.specs.Cage.{F}
 use Rattle.halfedges.specs.Refusals.{whenDone}
 use Rattle.tables.specs.Tables.{Tables}
-use Rattle.reading.specs.Reading.{cageIn}
+use Rattle.filechecks.specs.Contents.{cageIn}
 use Rattle.text.specs.Replies.{Reply, refused}
 use Rattle.intake.specs.Intake.{checkFile, fileReply}
 use Rattle.stl.specs.File.{facetAt, stlHead, stlFile}

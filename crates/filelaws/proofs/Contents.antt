@@ -1,5 +1,4 @@
 -- What stands in a file, counted and read byte by byte. Assumes nothing.
---     known-form                             a file that is to have one of some forms, and has, has the form that it is numbered by
 --     heads-counted, vertices-counted        its fields and V, by the tables that were read
 --     bytes-read                             a payload of one byte a number
 --     weight-read, weight-put, weight-small  the byte of a weight
@@ -22,19 +21,12 @@ use Rattle.points.specs.Operations.{vertices}
 use Rattle.cagefile.specs.declared.fields.Form.{Form}
 use Rattle.cagefile.specs.declared.fields.Form.the-variants.{One, Two}
 use Rattle.cagefile.specs.Fields.{number, laterHeads, heads}
-use Rattle.reading.specs.Reading.{formIn, HIn, VIn, edgesFor, formOf, twinsIn, headsIn, pointsIn, otherForm}
-use Rattle.reading.proofs.Outcomes.{points-length}
-use Rattle.reading.proofs.Verdict.{form-is}
+use Rattle.filechecks.specs.Contents.{formIn, HIn, VIn, edgesFor, formOf, twinsIn, headsIn, pointsIn}
+use Rattle.filechecks.specs.FileChecks.{otherForm}
+use Rattle.filechecks.proofs.Lengths.{points-length}
+use Rattle.filechecks.proofs.Sound.{form-is}
 
 module _ (f : List ℕ) where
-  pub known-form : (forms : List Form) → otherForm forms f ≡ false → formIn f ≡ number (formOf f)
-  known-form [] n = absurd (true≢false n)
-  known-form (form ∷ forms) n = by (ℕ-discrete (formIn f) (number form)) (λ m. known-form forms m)
-    where
-      by : Dec (formIn f ≡ number form) → (otherForm forms f ≡ false → formIn f ≡ number (formOf f)) → formIn f ≡ number (formOf f)
-      by (yes e) rest = e ∙ ap number (sym (form-is f form e))
-      by (no d) rest = rest (rw (ne-eqb (formIn f) (number form) d) at n)
-
   -- form 1 counts no edges
   pub heads-counted : headsIn f ≡ heads (formOf f) (HIn f) (E (twinsIn f)) (VIn f)
   unfolding headsIn laterHeads

@@ -16,7 +16,9 @@ use Rattle.levels.specs.Refining.{shortTables}
 use Rattle.points.specs.declared.weights.Weight.the-variants.{Short, Paper}
 use Rattle.cagefile.specs.declared.fields.Form.the-variants.{One, Two}
 use Rattle.cagefile.specs.Fields.{Cage, tableHeads, laterHeads, tablePayloads, laterPayloads, fields, file}
-use Rattle.reading.specs.Reading.{formOf, payloadAt, twinsIn, headsIn, fieldChecks, openingAsked, twinsAsked, weightAsked, fieldsChecks, frontToBack, fileChecks, shortRoom, readVerdict}
+use Rattle.filechecks.specs.Contents.{formOf, payloadAt, twinsIn, headsIn}
+use Rattle.filechecks.specs.FileChecks.{fieldChecks, openingAsked, twinsAsked, weightAsked, fieldsChecks, frontToBack, fileChecks}
+use Rattle.reading.specs.Reading.{shortRoom, readVerdict}
 
 -- P1's triangle with the paper's weight, and P5's pillow by the first of its twins
 abbrev triangle : Cage

@@ -24,16 +24,17 @@ use Rattle.cagefile.specs.declared.fields.Form.{Form}
 use Rattle.cagefile.specs.declared.fields.Form.the-variants.{One, Two}
 use Rattle.cagefile.specs.Numbers.{u16At, asTwin}
 use Rattle.cagefile.specs.Fields.{Head, opening, tableHeads, laterHeads, heads}
-use Rattle.reading.specs.Reading.{HIn, VIn, edgesFor, formOf, past, payloadAt, twinsIn, headsIn, fieldChecks, otherForm, Asked, openingAsked, twinsAsked, weightAsked, laterAsked, fieldsChecks, frontToBack, fileChecks, both, shortRoom, readVerdict, readFile}
-use Rattle.reading.proofs.Verdict.{opening-kept, checks-sound, longest, edges-few, sound-at-most}
-use Rattle.filelaws.proofs.Contents.{known-form}
+use Rattle.filechecks.specs.Contents.{HIn, VIn, edgesFor, formOf, past, payloadAt, twinsIn, headsIn}
+use Rattle.filechecks.specs.FileChecks.{fieldChecks, otherForm, Asked, openingAsked, twinsAsked, weightAsked, laterAsked, fieldsChecks, frontToBack, fileChecks, both}
+use Rattle.reading.specs.Reading.{shortRoom, readVerdict, readFile}
+use Rattle.filechecks.proofs.Sound.{opening-kept, checks-sound, longest, edges-few, sound-at-most}
 
 -- the longest file that reads
 abbrev most : ℕ
 most = longest Two
 
 pub too-long : (forms : List Form) (f : List ℕ) → longest Two < length f → first (fileChecks forms f) .number ≢ 0
-too-long forms f l z = by (formOf f) (sound-at-most f (checks-sound f forms (known-form f forms) (first-zero _ z)))
+too-long forms f l z = by (formOf f) (sound-at-most f (checks-sound f forms (first-zero _ z)))
   where
     by : (form : Form) → length f ≤ longest form → ⊥
     by One s = omega arith

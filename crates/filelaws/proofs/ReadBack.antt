@@ -30,10 +30,11 @@ use Rattle.cagefile.specs.Numbers.{u16, u32, twos, noTwin, u16At, u32At, asTwin
 use Rattle.cagefile.specs.Fields.{Cage, number, Head, opening, tableHeads, laterHeads, heads, tablePayloads, laterPayloads, payloads, fields, file}
 use Rattle.cagefile.proofs.NumberLaws.{stored, stored-small, u16-read, u32-read, asTwin-stored, signed-twos, twos-small}
 use Rattle.cagefile.proofs.Fits.{Sized, Fits, Numbered, file-sized}
-use Rattle.reading.specs.Reading.{formIn, HIn, VIn, formOf, past, payloadAt, twinsIn, vertsIn, edgesIn, headsIn, payload, creasesRead, pointsField, pointsIn, weightIn, cageIn, otherForm, openingAsked, twinsAsked, weightAsked, laterAsked, fileChecks}
-use Rattle.reading.proofs.FieldLaws.{fields-pass, payload-at}
-use Rattle.reading.proofs.FrontToBack.{questions, front-to-back}
-use Rattle.reading.proofs.Verdict.{form-is}
+use Rattle.filechecks.specs.Contents.{formIn, HIn, VIn, formOf, past, payloadAt, twinsIn, vertsIn, edgesIn, headsIn, payload, creasesRead, pointsField, pointsIn, weightIn, cageIn}
+use Rattle.filechecks.specs.FileChecks.{otherForm, openingAsked, twinsAsked, weightAsked, laterAsked, fileChecks}
+use Rattle.filechecks.proofs.FieldLaws.{fields-pass, payload-at}
+use Rattle.filechecks.proofs.FrontToBack.{questions, front-to-back}
+use Rattle.filechecks.proofs.Sound.{form-is}
 use Rattle.writing.specs.Writing.{plain}
 use Rattle.filelaws.proofs.Contents.{heads-counted, bytes-read, weight-read, weight-small}
 

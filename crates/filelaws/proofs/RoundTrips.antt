@@ -22,9 +22,13 @@ use Rattle.cagefile.specs.declared.fields.Form.{Form}
 use Rattle.cagefile.specs.declared.fields.Form.the-variants.{One, Two}
 use Rattle.cagefile.specs.Fields.{Cage, number, file}
 use Rattle.cagefile.proofs.NumberLaws.{Bytes}
-use Rattle.reading.specs.Reading.{edgesFor, formOf, twinsIn, vertsIn, edgesIn, creasesRead, pointsIn, weightIn, cageIn, fileChecks, both, shortRoom, readVerdict, Read, readFile}
-use Rattle.reading.proofs.Outcomes.{allRead, read-done, twins-length, verts-length, edges-length, creases-length, points-length}
-use Rattle.reading.proofs.Verdict.{form-known, longest, read-sound, sound-at-most}
+use Rattle.filechecks.specs.Contents.{edgesFor, formOf, twinsIn, vertsIn, edgesIn, creasesRead, pointsIn, weightIn, cageIn}
+use Rattle.filechecks.specs.FileChecks.{fileChecks, both}
+use Rattle.reading.specs.Reading.{shortRoom, readVerdict, Read, readFile}
+use Rattle.filechecks.proofs.Lengths.{twins-length, verts-length, edges-length, creases-length, points-length}
+use Rattle.reading.proofs.Outcomes.{allRead, read-done}
+use Rattle.filechecks.proofs.Sound.{form-known, longest, sound-at-most}
+use Rattle.reading.proofs.Verdict.{read-sound}
 use Rattle.writing.specs.Writing.{plain, writeChecks, writeVerdict, Written, writeFile}
 use Rattle.writing.proofs.Outcomes.{write-done}
 use Rattle.filelaws.proofs.Contents.{vertices-counted, weight-read}

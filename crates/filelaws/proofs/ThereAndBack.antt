@@ -12,9 +12,9 @@ use Rattle.cagefile.specs.declared.fields.Form.{Form}
 use Rattle.cagefile.specs.declared.fields.Form.the-variants.{One, Two}
 use Rattle.cagefile.specs.Fields.{opening, file}
 use Rattle.cagefile.proofs.NumberLaws.{Bytes}
-use Rattle.reading.specs.Reading.{formOf, weightIn, cageIn, fieldChecks, openingAsked, frontToBack, fileChecks}
-use Rattle.reading.proofs.Verdict.{form-is, form-known, known-one, opening-kept, checks-sound}
-use Rattle.filelaws.proofs.Contents.{known-form}
+use Rattle.filechecks.specs.Contents.{formOf, weightIn, cageIn}
+use Rattle.filechecks.specs.FileChecks.{fieldChecks, openingAsked, frontToBack, fileChecks}
+use Rattle.filechecks.proofs.Sound.{form-is, form-known, known-one, opening-kept, checks-sound}
 use Rattle.filelaws.proofs.ReadBack.{PlainIn, FitsForm, form-read, cage-of-file, file-passes}
 use Rattle.filelaws.proofs.WriteBack.{file-of-cage}
 
@@ -36,4 +36,4 @@ module _ (from : Form) (f : List ℕ) (e : first (fileChecks (from ∷ []) f) �
 
     pub moved-back : Bytes f → file from (cageIn (file to (cageIn f))) ≡ f
     moved-back b =
-        rw (cage-of-file to (cageIn f) fits, ← form-asked) (file-of-cage f (checks-sound f (from ∷ []) (known-form f (from ∷ [])) e) b)
+        rw (cage-of-file to (cageIn f) fits, ← form-asked) (file-of-cage f (checks-sound f (from ∷ []) e) b)

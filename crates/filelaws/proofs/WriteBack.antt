@@ -16,11 +16,11 @@ use Rattle.cagefile.specs.declared.fields.Form.the-variants.{One, Two}
 use Rattle.cagefile.specs.Numbers.{u16, u32, twos, u16At, u32At, asTwin, signed}
 use Rattle.cagefile.specs.Fields.{number, opening, tableHeads, laterHeads, heads, tablePayloads, laterPayloads, payloads, fields, file}
 use Rattle.cagefile.proofs.NumberLaws.{Bytes, stored, u16At-small, u32At-small, u16-put, u32-put, stored-asTwin, twos-signed}
-use Rattle.reading.specs.Reading.{HIn, VIn, EIn, formOf, payloadAt, twinsIn, vertsIn, edgesIn, headsIn, payload, tablePayload, creasesRead, pointsField, pointsIn, weightIn, cageIn}
-use Rattle.reading.specs.Internal.Sound.{Sound}
-use Rattle.reading.proofs.FieldLaws.{payloadsIn, fields-hold}
-use Rattle.reading.proofs.Outcomes.{twins-length}
-use Rattle.reading.proofs.Verdict.{sound-length}
+use Rattle.filechecks.specs.Contents.{HIn, VIn, EIn, formOf, payloadAt, twinsIn, vertsIn, edgesIn, headsIn, payload, tablePayload, creasesRead, pointsField, pointsIn, weightIn, cageIn}
+use Rattle.filechecks.specs.Internal.Sound.{Sound}
+use Rattle.filechecks.proofs.FieldLaws.{payloadsIn, fields-hold}
+use Rattle.filechecks.proofs.Lengths.{twins-length}
+use Rattle.filechecks.proofs.Sound.{sound-length}
 use Rattle.filelaws.proofs.Contents.{heads-counted, vertices-counted, bytes-read, weight-put}
 
 module _ (f : List ℕ) (s : Sound f) (b : Bytes f) where

@@ -10,7 +10,7 @@ use lib.IntN.{ℤ}
 use lib.ListN.{length, take}
 use lib.Seq.{take-all}
 use Rattle.tables.specs.Tables.{Tables}
-use Rattle.reading.specs.Reading.{both}
+use Rattle.filechecks.specs.FileChecks.{both}
 use Rattle.filelaws.proofs.Prefix.{too-long, longer-alike}
 use Rattle.text.specs.Replies.{refused}
 use Rattle.intake.specs.Intake.{checkFile, fileReply}

@@ -23,10 +23,13 @@ use Rattle.tables.specs.Tables.{Tables}
 use Rattle.tables.specs.Check.{returned, checked}
 use Rattle.points.specs.Operations.{vertices, cageChecks, creasedChecks, checkCreased}
 use Rattle.reading.specs.declared.Reading.{Reading}
-use Rattle.reading.specs.Reading.{HIn, VIn, cageIn, fileChecks, both, readFile, reported}
+use Rattle.filechecks.specs.Contents.{HIn, VIn, cageIn}
+use Rattle.filechecks.specs.FileChecks.{fileChecks, both}
+use Rattle.reading.specs.Reading.{readFile, reported}
 use Rattle.reading.specs.Internal.Fronts.{Ample, Fronts}
-use Rattle.reading.proofs.Outcomes.{Left, twins-length, points-length}
-use Rattle.reading.proofs.Verdict.{edges-few}
+use Rattle.filechecks.proofs.Lengths.{twins-length, points-length}
+use Rattle.reading.proofs.Outcomes.{Left}
+use Rattle.filechecks.proofs.Sound.{edges-few}
 use Rattle.reading.proofs.Fronts.{ample-told, ample-fronts, creases-there}
 use Rattle.writing.proofs.Accepted.{creased-kept}
 use Rattle.text.specs.Replies.{answered, refused}

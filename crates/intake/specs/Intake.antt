@@ -7,7 +7,8 @@ use lib.ListN.{replicate}
 use Rattle.halfedges.specs.Refusals.{Said, first, whenDone}
 use Rattle.tables.specs.Tables.{Tables}
 use Rattle.points.specs.Operations.{checkCreased}
-use Rattle.reading.specs.Reading.{cageIn, fileChecks, both}
+use Rattle.filechecks.specs.Contents.{cageIn}
+use Rattle.filechecks.specs.FileChecks.{fileChecks, both}
 use Rattle.text.specs.Replies.{Reply, answered, refused}
 
 -- "Reads one cage file .., checks the cage": what the check answers, or the refusal of reading

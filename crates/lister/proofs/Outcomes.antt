@@ -21,7 +21,7 @@ use Rattle.tables.specs.Check.{returned, checked, tableChecks}
 use Rattle.points.specs.Operations.{vertices}
 use Rattle.invariance.proofs.Levels.{accepted}
 use Rattle.cage.proofs.CageChecks.{tables-accepted}
-use Rattle.reading.specs.Reading.{cageIn}
+use Rattle.filechecks.specs.Contents.{cageIn}
 use Rattle.cagefile.proofs.Fits.{Fits}
 use Rattle.writing.proofs.Accepted.{accepted-fits}
 use Rattle.text.specs.Lines.{roomLine}

@@ -14,7 +14,8 @@ use Rattle.halfedges.specs.Refusals.{told, first, said, filled}
 use Rattle.halfedges.proofs.Checks.{first-refused-before}
 use Rattle.cagefile.specs.declared.fields.Form.{Form}
 use Rattle.cagefile.specs.Fields.{file}
-use Rattle.reading.specs.Reading.{cageIn, fileChecks}
+use Rattle.filechecks.specs.Contents.{cageIn}
+use Rattle.filechecks.specs.FileChecks.{fileChecks}
 use Rattle.filelaws.proofs.Prefix.{too-long, longer-alike}
 use Rattle.writing.specs.declared.Writing.{Writing}
 use Rattle.writing.specs.Writing.{written, wrote}

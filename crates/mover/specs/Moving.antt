@@ -6,7 +6,7 @@ use Rattle.halfedges.specs.Cage.{most-halfedges, most-vertices}
 use Rattle.halfedges.specs.Refusals.{whenDone}
 use Rattle.cagefile.specs.declared.fields.Form.{Form}
 use Rattle.cagefile.specs.Fields.{file}
-use Rattle.reading.specs.Reading.{cageIn}
+use Rattle.filechecks.specs.Contents.{cageIn}
 use Rattle.moves.specs.Moves.{moveVerdict}
 use Rattle.text.specs.Replies.{Reply, answered, refused}
 

@@ -8,8 +8,8 @@ use Rattle.halfedges.specs.Refusals.{Verdict, FIELD, given, first}
 use Rattle.halfedges.proofs.Checks.{first-zero, done-both, done-passes, first-stops}
 use Rattle.cagefile.specs.declared.fields.Form.{Form}
 use Rattle.cagefile.specs.Fields.{opening}
-use Rattle.reading.specs.Reading.{fieldChecks, otherForm, openingAsked, frontToBack, fileChecks, both}
-use Rattle.reading.proofs.Verdict.{form-known, known-one}
+use Rattle.filechecks.specs.FileChecks.{fieldChecks, otherForm, openingAsked, frontToBack, fileChecks, both}
+use Rattle.filechecks.proofs.Sound.{form-known, known-one}
 
 module _ (form : Form) (f : List ℕ) (v : Verdict) (e : v ≡ first (fieldChecks f 0 opening ++ (given (otherForm (form ∷ []) f) (FIELD 0) ∷ []))) where
   pub form-refused : v .number ≢ 0 → v ≡ first (fileChecks (form ∷ []) f)

@@ -17,7 +17,8 @@ use Rattle.points.specs.Weights.{weightOf}
 use Rattle.cagefile.specs.declared.fields.Form.{Form}
 use Rattle.cagefile.specs.Fields.{Cage, file}
 use Rattle.reading.specs.declared.Reading.{Reading}
-use Rattle.reading.specs.Reading.{weightIn, cageIn, fileChecks}
+use Rattle.filechecks.specs.Contents.{weightIn, cageIn}
+use Rattle.filechecks.specs.FileChecks.{fileChecks}
 use Rattle.reading.specs.Internal.Fronts.{Fronts}
 use Rattle.reading.proofs.Fronts.{creases-there}
 use Rattle.writing.specs.Writing.{written}

@@ -13,7 +13,8 @@ use Rattle.points.specs.Operations.{creasedChecks}
 use Rattle.cagefile.specs.declared.fields.Form.{Form}
 use Rattle.cagefile.specs.Fields.{file}
 use Rattle.cagefile.proofs.NumberLaws.{Bytes}
-use Rattle.reading.specs.Reading.{cageIn, fileChecks}
+use Rattle.filechecks.specs.Contents.{cageIn}
+use Rattle.filechecks.specs.FileChecks.{fileChecks}
 use Rattle.writing.specs.Writing.{Written, written}
 use Rattle.writing.proofs.Accepted.{creased-kept}
 use Rattle.filelaws.proofs.ReadBack.{cage-of-file}

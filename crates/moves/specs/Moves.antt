@@ -13,7 +13,8 @@ use Rattle.points.specs.Operations.{creasedChecks}
 use Rattle.cagefile.specs.declared.fields.Form.{Form}
 use Rattle.cagefile.specs.declared.fields.Form.the-variants.{One, Two}
 use Rattle.cagefile.specs.Fields.{Cage, file}
-use Rattle.reading.specs.Reading.{cageIn, fileChecks}
+use Rattle.filechecks.specs.Contents.{cageIn}
+use Rattle.filechecks.specs.FileChecks.{fileChecks}
 use Rattle.writing.specs.Writing.{Written, written}
 
 -- a crease number or the weight is not 0

@@ -7,7 +7,7 @@ ghost use Rattle.halfedges.specs.Cage.{E};
 ghost use Rattle.halfedges.specs.Refusals.{told, first};
 ghost use Rattle.tables.specs.Tables.{tables};
 ghost use Rattle.cagefile.specs.Fields.{Cage, file as Fields·file};
-ghost use Rattle.reading.specs.Reading.{fileChecks};
+ghost use Rattle.filechecks.specs.FileChecks.{fileChecks};
 ghost use Rattle.reading.specs.Internal.Fronts.{Ample, Fronts};
 ghost use Rattle.writing.specs.Writing.{wrote, written};
 ghost use Rattle.moves.specs.Moves.{numbered, cageMoves, move};
@@ -94,7 +94,7 @@ fn read_form(
         ⌜ (told (r .answer) .number ≡ 0 → Fronts (now (file .entry)) r (tables (now (twin .exit)) (now (vert .exit)) (now (edge .exit)))
         (now (points .exit)) (now (creases .entry)) (now (creases .exit))) ⌝ }
 {
-    let answer = reading::checks::form_refusal(file, form);
+    let answer = filechecks::form_refusal(file, form);
     if answer.number() != 0 {
         return Reading::refused(answer);
     }

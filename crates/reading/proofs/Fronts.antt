@@ -23,11 +23,14 @@ use Rattle.levels.specs.Refining.{shortTables}
 use Rattle.cagefile.specs.declared.fields.Form.{Form}
 use Rattle.cagefile.specs.declared.fields.Form.the-variants.{One, Two}
 use Rattle.reading.specs.declared.Reading.{Reading}
-use Rattle.reading.specs.Reading.{HIn, VIn, EIn, edgesFor, formOf, tablePayload, creasesFor, cageIn, twinsIn, vertsIn, edgesIn, creasesRead, pointsIn, fileChecks, both, shortRoom, readVerdict, readFile, reported}
-use Rattle.reading.specs.Internal.Sound.{Sound}
+use Rattle.filechecks.specs.Contents.{HIn, VIn, EIn, edgesFor, formOf, tablePayload, creasesFor, cageIn, twinsIn, vertsIn, edgesIn, creasesRead, pointsIn}
+use Rattle.filechecks.specs.FileChecks.{fileChecks, both}
+use Rattle.reading.specs.Reading.{shortRoom, readVerdict, readFile, reported}
+use Rattle.filechecks.specs.Internal.Sound.{Sound}
 use Rattle.reading.specs.Internal.Fronts.{Ample, Fronts}
-use Rattle.reading.proofs.Verdict.{known-both, checks-sound, edges-few, few-creases}
-use Rattle.reading.proofs.Outcomes.{valuesIn, Left, read-done, twins-length, verts-length, edges-length, creases-length, points-length}
+use Rattle.filechecks.proofs.Sound.{checks-sound, edges-few, few-creases}
+use Rattle.filechecks.proofs.Lengths.{twins-length, verts-length, edges-length, creases-length, points-length}
+use Rattle.reading.proofs.Outcomes.{valuesIn, Left, read-done}
 
 module _ (f : List ℕ) (lent : Tables) (lentPoints : List ℤ) (lentCreases : List ℕ) (ample : Ample lent lentPoints lentCreases) where
   room-passes : Sound f → first (shortRoom f lent lentPoints lentCreases) ≡ DONE
@@ -48,7 +51,7 @@ module _ (f : List ℕ) (lent : Tables) (lentPoints : List ℤ) (lentCreases : L
       by : Dec (first (fileChecks both f) .number ≡ 0) → first (fileChecks both f ++ shortRoom f lent lentPoints lentCreases) ≡ first (fileChecks both f)
       by (yes z) =
           let d = first-zero (fileChecks both f) z in
-          first-more (fileChecks both f) _ d ∙ room-passes (checks-sound f both (known-both f) d) ∙ sym d
+          first-more (fileChecks both f) _ d ∙ room-passes (checks-sound f both d) ∙ sym d
       by (no n) = first-refused-before (shortRoom f lent lentPoints lentCreases) (fileChecks both f) n
 
   module _ (r : Reading) (now : Tables) (points : List ℤ) (creases : List ℕ) (left : Left (readFile f lent lentPoints lentCreases) (reported r) now points creases) where
@@ -63,7 +66,7 @@ module _ (f : List ℕ) (lent : Tables) (lentPoints : List ℤ) (lentCreases : L
         let H : r .halfedges ≡ HIn f = ap (λ vs. getD vs 1 0) values in
         let v : r .vertices ≡ VIn f = ap (λ vs. getD vs 2 0) values in
         let e : r .edges ≡ EIn f = ap (λ vs. getD vs 3 0) values in
-        let s = checks-sound f both (known-both f) (sym ample-told ∙ zero-done (r .answer) z) in
+        let s = checks-sound f both (sym ample-told ∙ zero-done (r .answer) z) in
         record {
           sound = s;
           ample =

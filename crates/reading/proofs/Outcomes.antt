@@ -1,21 +1,19 @@
 -- What reading leaves where it is done and where it refuses. Assumes nothing.
 --     read-done, done-left, refused-left        each outcome of reading
---     twins-length, verts-length, edges-length, creases-length, points-length   how many cells are read
-use Prim.Native.Nat.{ℕ, _*_}
+use Prim.Native.Nat.{ℕ}
 use mathlib.Core.Path.{_≡_, refl}
 use mathlib.Core.Logic.{_≢_}
 use mathlib.Core.List.{List, [], _∷_}
 use lib.IntN.{ℤ}
-use lib.ListN.{length}
 use borrow.Author.Tests.{ne-eqb}
 use Rattle.laws.specs.Parts.{inFront}
-use Rattle.laws.proofs.Tabulate.{length-tabulate}
 use Rattle.halfedges.specs.Refusals.{Verdict, DONE, Said, said, filled}
 use Rattle.tables.specs.Tables.{Tables, tables}
 use Rattle.levels.specs.Refining.{filledTables}
 use Rattle.points.specs.Weights.{weightNumber}
 use Rattle.cagefile.specs.Fields.{number}
-use Rattle.reading.specs.Reading.{HIn, VIn, EIn, formOf, readVerdict, twinsIn, vertsIn, edgesIn, creasesRead, pointsIn, weightIn, Read, readFile}
+use Rattle.filechecks.specs.Contents.{HIn, VIn, EIn, formOf, twinsIn, vertsIn, edgesIn, creasesRead, pointsIn, weightIn}
+use Rattle.reading.specs.Reading.{readVerdict, Read, readFile}
 
 -- what reading answers where it is done
 abbrev pub valuesIn : List ℕ → List ℕ
@@ -50,24 +48,3 @@ module _ (f : List ℕ) (lent : Tables) (lentPoints : List ℤ) (lentCreases : L
       → (answer : Said (List ℕ)) → answer ≡ record { verdict = v; values = 0 ∷ 0 ∷ 0 ∷ 0 ∷ 0 ∷ [] } → Left (readFile f lent lentPoints lentCreases) answer lent lentPoints lentCreases
   unfolding readFile said filledTables filled
   refused-left v e n answer a = rw (a, ← e, ne-eqb _ _ n) (refl, refl, refl, refl)
-
-module _ (f : List ℕ) where
-  pub twins-length : length (twinsIn f) ≡ HIn f
-  unfolding twinsIn
-  twins-length = length-tabulate (HIn f) _
-
-  pub verts-length : length (vertsIn f) ≡ HIn f
-  unfolding vertsIn
-  verts-length = length-tabulate (HIn f) _
-
-  pub edges-length : length (edgesIn f) ≡ HIn f
-  unfolding edgesIn
-  edges-length = length-tabulate (HIn f) _
-
-  pub creases-length : length (creasesRead f) ≡ EIn f
-  unfolding creasesRead
-  creases-length = length-tabulate (EIn f) _
-
-  pub points-length : length (pointsIn f) ≡ 3 * VIn f
-  unfolding pointsIn
-  points-length = length-tabulate (3 * VIn f) _

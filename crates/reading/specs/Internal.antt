@@ -1,3 +1,3 @@
 -- What only contracts between functions cite.
-pub mod Sound
+pub mod Room
 pub mod Fronts

@@ -8,12 +8,14 @@ ghost use Rattle.halfedges.specs.Refusals.{DONE, told};
 ghost use Rattle.tables.specs.Tables.{tables};
 ghost use Rattle.points.specs.Weights.{weightNumber};
 ghost use Rattle.cagefile.specs.Fields.{number};
-ghost use Rattle.reading.specs.Reading.{HIn, VIn, EIn, formOf, twinsIn, vertsIn, edgesIn, creasesRead, pointsIn, weightIn, readFile, reported};
-ghost use Rattle.reading.specs.Internal.Sound.{Sound};
+ghost use Rattle.filechecks.specs.Contents.{HIn, VIn, EIn, formOf, twinsIn, vertsIn, edgesIn, creasesRead, pointsIn, weightIn};
+ghost use Rattle.filechecks.specs.Internal.Sound.{Sound};
+ghost use Rattle.reading.specs.Reading.{readFile, reported};
 use cagefile::fields;
+use filechecks::twins;
 use halfedges::answer::Answer;
 
-pub mod checks;
+mod checks;
 mod copies;
 
 // The answer of reading: the form, H, V, E and the weight's number where it is done, zeros where it refuses. Of form 1 E and the weight
@@ -51,10 +53,10 @@ impl Reading {
     {
         Reading {
             answer: Answer::Done,
-            form: checks::form_in(file),
-            halfedges: checks::halfedges_in(file),
-            vertices: checks::vertices_in(file),
-            edges: checks::edges_in(file),
+            form: filechecks::form_in(file),
+            halfedges: filechecks::halfedges_in(file),
+            vertices: filechecks::vertices_in(file),
+            edges: filechecks::edges_in(file),
             weight,
         }
     }
@@ -69,10 +71,10 @@ fn copy_tables(file: &[u8], twin: &mut [u32], vert: &mut [u32], edge: &mut [u32]
         ⌜ (now (twin .exit) ≡ inFront (twinsIn f) (now (twin .entry))) × (now (vert .exit) ≡ inFront (vertsIn f) (now (vert .entry)))
         × (now (edge .exit) ≡ inFront (edgesIn f) (now (edge .entry))) ⌝ }
 {
-    let halfedges = checks::halfedges_in(file);
+    let halfedges = filechecks::halfedges_in(file);
     let table = 2 * halfedges;
-    copies::copy_twins(file, copies::TWIN_AT, &mut *twin, halfedges);
-    let vert_at = copies::TWIN_AT + table + fields::HEAD;
+    twins::copy_twins(file, twins::TWIN_AT, &mut *twin, halfedges);
+    let vert_at = twins::TWIN_AT + table + fields::HEAD;
     copies::copy_numbers(file, vert_at, &mut *vert, halfedges);
     let edge_at = vert_at + table + fields::HEAD;
     copies::copy_numbers(file, edge_at, &mut *edge, halfedges);
@@ -86,13 +88,13 @@ fn copy_rest(file: &[u8], points: &mut [i32], creases: &mut [u8]) -> u32
         ⌜ (r ≡ weightNumber (weightIn f)) × (now (points .exit) ≡ inFront (pointsIn f) (now (points .entry)))
         × (now (creases .exit) ≡ inFront (creasesRead f) (now (creases .entry))) ⌝ }
 {
-    let coordinates = 3 * checks::vertices_in(file);
-    let at = checks::after_tables(checks::halfedges_in(file)) + fields::HEAD;
-    if !checks::has_creases(file) {
+    let coordinates = 3 * filechecks::vertices_in(file);
+    let at = filechecks::after_tables(filechecks::halfedges_in(file)) + fields::HEAD;
+    if !filechecks::has_creases(file) {
         copies::copy_points(file, at, &mut *points, coordinates);
         return 0;
     }
-    let edges = checks::edges_in(file);
+    let edges = filechecks::edges_in(file);
     copies::copy_creases(file, at, &mut *creases, edges);
     let points_at = at + edges + fields::HEAD;
     copies::copy_points(file, points_at, &mut *points, coordinates);

@@ -10,7 +10,7 @@ use Rattle.tables.specs.declared.check.Checked.{Checked}
 use Rattle.tables.specs.Tables.{Tables, tables}
 use Rattle.points.specs.Operations.{checkCreased}
 use Rattle.reading.specs.declared.Reading.{Reading}
-use Rattle.reading.specs.Reading.{cageIn}
+use Rattle.filechecks.specs.Contents.{cageIn}
 
 -- the cage at the tables' fronts
 abbrev pub front : Reading → Tables → Tables

@@ -12,9 +12,9 @@ use Rattle.halfedges.specs.Refusals.{told}
 use Rattle.tables.specs.Tables.{Tables, tables}
 use Rattle.cagefile.specs.Fields.{file}
 use Rattle.reading.specs.declared.Reading.{Reading}
-use Rattle.reading.specs.Reading.{cageIn}
+use Rattle.filechecks.specs.Contents.{cageIn}
 use Rattle.reading.specs.Internal.Fronts.{Fronts}
-use Rattle.reading.proofs.Verdict.{edges-few}
+use Rattle.filechecks.proofs.Sound.{edges-few}
 use Rattle.writing.proofs.Outcomes.{refused-left}
 use Rattle.moves.specs.Moves.{move}
 use Rattle.moves.proofs.Moved.{cage-there, unread-moves, read-moves}

@@ -12,10 +12,10 @@ use Rattle.laws.specs.Parts.{inFront}
 use Rattle.cagefile.specs.declared.fields.Form.the-variants.{One, Two}
 use Rattle.cagefile.proofs.Fits.{extra}
 use Rattle.cagefile.specs.Numbers.{u32At, signed}
-use Rattle.reading.specs.Reading.{HIn, VIn, EIn, formOf}
-use Rattle.reading.specs.Internal.Sound.{Sound}
-use Rattle.reading.proofs.Verdict.{form-is, form-other, sound-length}
-use Rattle.reading.proofs.Places.{creases-at, no-creases, plain-points, creased-points, plain-weight, creased-weight}
+use Rattle.filechecks.specs.Contents.{HIn, VIn, EIn, formOf}
+use Rattle.filechecks.specs.Internal.Sound.{Sound}
+use Rattle.filechecks.proofs.Sound.{form-is, form-other, sound-length}
+use Rattle.filechecks.proofs.Places.{creases-at, no-creases, plain-points, creased-points, plain-weight, creased-weight}
 use Rattle.reading.proofs.copy_rest.Statement.{statement}
 use Rattle.reading.proofs.copy_rest.Tie as tie
 

@@ -2,7 +2,7 @@
 use borrow.Author.Needs.{needs}
 use mathlib.Core.Path.{ap, _∙_}
 use Rattle.laws.specs.Parts.{inFront}
-use Rattle.reading.proofs.Places.{twins-at, verts-at, edges-at}
+use Rattle.filechecks.proofs.Places.{twins-at, verts-at, edges-at}
 use Rattle.reading.proofs.copy_tables.Statement.{statement}
 use Rattle.reading.proofs.copy_tables.Tie as tie
 

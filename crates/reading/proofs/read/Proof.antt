@@ -8,9 +8,12 @@ use lib.ListN.{length}
 use Rattle.halfedges.specs.Refusals.{DONE}
 use Rattle.halfedges.proofs.Checks.{first-zero}
 use Rattle.tables.specs.Tables.{Tables, tables}
-use Rattle.reading.specs.Reading.{HIn, VIn, readVerdict}
-use Rattle.reading.specs.Internal.Sound.{Sound, RoomFor}
-use Rattle.reading.proofs.Verdict.{read-sound, read-room, sound-length}
+use Rattle.filechecks.specs.Contents.{HIn, VIn}
+use Rattle.reading.specs.Reading.{readVerdict}
+use Rattle.filechecks.specs.Internal.Sound.{Sound}
+use Rattle.reading.specs.Internal.Room.{RoomFor}
+use Rattle.filechecks.proofs.Sound.{sound-length}
+use Rattle.reading.proofs.Verdict.{read-sound, read-room}
 use Rattle.reading.proofs.Outcomes.{done-left, refused-left}
 use Rattle.reading.proofs.read.Statement.{statement}
 use Rattle.reading.proofs.read.Tie as tie

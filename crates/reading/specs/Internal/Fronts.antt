@@ -9,8 +9,8 @@ use Rattle.halfedges.specs.Cage.{most-halfedges, most-vertices}
 use Rattle.tables.specs.Tables.{Tables}
 use Rattle.points.specs.Weights.{weightNumber}
 use Rattle.reading.specs.declared.Reading.{Reading}
-use Rattle.reading.specs.Reading.{HIn, VIn, EIn, twinsIn, vertsIn, edgesIn, creasesRead, pointsIn, weightIn}
-use Rattle.reading.specs.Internal.Sound.{Sound}
+use Rattle.filechecks.specs.Contents.{HIn, VIn, EIn, twinsIn, vertsIn, edgesIn, creasesRead, pointsIn, weightIn}
+use Rattle.filechecks.specs.Internal.Sound.{Sound}
 
 -- the tables have the limits' lengths
 pub record Ample (lent : Tables) (lentPoints : List ℤ) (lentCreases : List ℕ) : Type 0 where

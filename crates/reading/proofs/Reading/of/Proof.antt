@@ -6,7 +6,7 @@ use mathlib.Core.List.{[], _∷_}
 use native.Mathlib.Omega.{arith}
 use lib.ListN.{length}
 use Rattle.halfedges.specs.Refusals.{DONE}
-use Rattle.reading.proofs.Verdict.{sound-length}
+use Rattle.filechecks.proofs.Sound.{sound-length}
 use Rattle.reading.proofs.Reading.of.Statement.{statement}
 use Rattle.reading.proofs.Reading.of.Tie as tie
 

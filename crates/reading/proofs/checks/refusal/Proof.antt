@@ -9,9 +9,11 @@ use Rattle.halfedges.specs.Refusals.{Verdict, DONE, short, first}
 use Rattle.halfedges.proofs.Checks.{first-zero, first-more, first-stops}
 use Rattle.tables.specs.Tables.{tables}
 use Rattle.levels.specs.Refining.{shortTables}
-use Rattle.reading.specs.Reading.{HIn, VIn, EIn, fileChecks, both, shortRoom, readVerdict}
-use Rattle.reading.specs.Internal.Sound.{Sound}
-use Rattle.reading.proofs.Verdict.{known-both, checks-sound, sound-length}
+use Rattle.filechecks.specs.Contents.{HIn, VIn, EIn}
+use Rattle.filechecks.specs.FileChecks.{fileChecks, both}
+use Rattle.reading.specs.Reading.{shortRoom, readVerdict}
+use Rattle.filechecks.specs.Internal.Sound.{Sound}
+use Rattle.filechecks.proofs.Sound.{checks-sound, sound-length}
 use Rattle.reading.proofs.checks.refusal.Statement.{statement}
 use Rattle.reading.proofs.checks.refusal.Tie as tie
 
@@ -27,7 +29,7 @@ module _ (c : tie.Else1) where
   done = first-zero _ (rw (c .before .before .file-refusal .ensures) at (sym (c .before .number .ensures) ∙ c .if1 .left))
 
   sound : Sound f
-  sound = checks-sound f both (known-both f) done
+  sound = checks-sound f both done
 
   whole : 9 ≤ length f
   whole = omega (arith, sound-length f sound)

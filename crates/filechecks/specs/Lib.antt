@@ -1,0 +1,3 @@
+pub mod Contents
+pub mod FileChecks
+pub mod Internal
