@@ -64,7 +64,7 @@ fn unknown_usage_is_told() {
 
 #[test]
 fn a_named_cage_is_listed() {
-    for name in ["triangle", "pillow", "cushion", "coarse-cushion"] {
+    for name in ["triangle", "pillow", "cushion", "seamed-cushion"] {
         let file = run(&["cage", name], &[]).stdout;
         let listed = printed(&["list"], &file);
         assert_eq!(listed.lines().count(), 8, "{name}");
@@ -75,8 +75,13 @@ fn a_named_cage_is_listed() {
 /// Form 1 without a weight, form 2 with either.
 #[test]
 fn a_named_cage_is_written_in_both_forms() {
-    for name in ["triangle", "cushion", "creased-ring-torus"] {
-        let cage = cage_named(name).expect("in the suite");
+    for name in [
+        "triangle",
+        "cushion",
+        "creased-ring-torus",
+        "seamed-cushion",
+    ] {
+        let cage = cage_named(name).expect("of this name");
         assert_eq!(bytes(&["cage", name], &[]), form_1_file(&cage));
         let [short, paper] = WEIGHTS.map(|weight| form_2_file(&cage, weight));
         assert_eq!(bytes(&["cage", name, "short"], &[]), short);

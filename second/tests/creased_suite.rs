@@ -144,6 +144,31 @@ fn cages_at_the_limits() {
     }
 }
 
+/// The cage to draw has one closed seam, through the vertices one cell in from the
+/// border. No other edge joins two of these.
+#[test]
+fn the_seam_of_the_seamed_cushion() {
+    let cage = cage_named("seamed-cushion").expect("there to be drawn");
+    let counts = check(&cage).expect("accepted");
+    assert_eq!((counts.triangles, counts.vertices), (72, 49));
+    let sharp = cage.creases.iter().filter(|&&number| number > 0);
+    assert_eq!(sharp.copied().collect::<Vec<u8>>(), [4; 16]);
+    let is_on_seam = |vertex: usize| {
+        let (column, row) = (vertex % 7, vertex / 7);
+        [column, row, 6 - column, 6 - row].into_iter().min() == Some(1)
+    };
+    for (vertex, creases) in numbered_creases(&cage).iter().enumerate() {
+        let sharp = creases.iter().filter(|crease| !crease.is_border());
+        let expected = if is_on_seam(vertex) { 2 } else { 0 };
+        assert_eq!(sharp.count(), expected, "{vertex}");
+    }
+    for (h, &edge) in cage.edge.iter().enumerate() {
+        let ends = [h, h - h % 3 + (h + 1) % 3].map(|h| cage.vert[h] as usize);
+        let joins_two = ends.into_iter().all(is_on_seam);
+        assert_eq!(cage.creases[edge as usize] > 0, joins_two, "{ends:?}");
+    }
+}
+
 /// Every order of two faults in which the crease table has a part, and the place of
 /// 15 at low and high edges.
 #[test]

@@ -1,6 +1,7 @@
 //! For trying what document 01 says about "The cage": a seat cushion, open at
-//! its border.
+//! its border; and for document 02, "Edges that stay sharp": one with a seam.
 
+use super::creased::along;
 use super::shapes::{cells, open_sheet};
 use crate::cage::Cage;
 use crate::sew::sew;
@@ -16,14 +17,23 @@ const CROWN: f64 = 45.0;
 const HOLLOW: f64 = 14.0;
 const FRONT_FALL: f64 = 12.0;
 
+/// The way round the seat of 6 cells each way, one cell in from the border.
+const SEAM: [usize; 17] = [
+    8, 9, 10, 11, 12, 19, 26, 33, 40, 39, 38, 37, 36, 29, 22, 15, 8,
+];
+
+/// The seam stays sharp in levels 0 to 3, which are drawn.
+const SEAM_NUMBER: u8 = 4;
+
 /// The cushion to mill: 12 cells each way, 288 triangles.
 pub(super) fn cushion() -> Cage {
     cushion_of(12)
 }
 
-/// The cushion to draw: 6 cells each way, 72 triangles, few enough to see.
-pub(super) fn coarse_cushion() -> Cage {
-    cushion_of(6)
+/// The cushion to draw: 6 cells each way, 72 triangles, few enough to see, and
+/// a closed seam.
+pub(super) fn seamed_cushion() -> Cage {
+    along(cushion_of(6), &SEAM, &[SEAM_NUMBER])
 }
 
 /// A height-field over a rounded rectangle, of so many cells each way. Each

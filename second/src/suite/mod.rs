@@ -105,8 +105,8 @@ fn entries(cages: Vec<(String, Cage)>, expected: Expected) -> Vec<SuiteCage> {
 
 /// The cage of this name: of the suite, or the one that is there to be drawn.
 pub fn cage_named(name: &str) -> Option<Cage> {
-    if name == "coarse-cushion" {
-        return Some(cushion::coarse_cushion());
+    if name == "seamed-cushion" {
+        return Some(cushion::seamed_cushion());
     }
     let found = suite().into_iter().find(|entry| entry.name == name);
     found.map(|entry| entry.cage)

@@ -35,7 +35,7 @@ pub(super) fn creased_cages(drawn_cages: &[(String, Cage)]) -> Vec<(String, Cage
 
 /// The cage with numbers along a path of vertices, from each to the next. Where
 /// there are fewer numbers than edges they are taken again from the first.
-fn along(cage: Cage, path: &[usize], numbers: &[u8]) -> Cage {
+pub(super) fn along(cage: Cage, path: &[usize], numbers: &[u8]) -> Cage {
     let mut creased = cage;
     for (step, &number) in path.windows(2).zip(numbers.iter().cycle()) {
         for edge in edges_between(&creased, step) {
