@@ -44,12 +44,13 @@ use Rattle.cagefile.proofs.Fits.{Fits, Numbered, edges-at-most, file-length}
 use Rattle.filechecks.specs.Contents.{HIn, VIn, formOf, edgesFor, twinsIn, headsIn, weightIn, cageIn, past}
 use Rattle.filechecks.specs.FileChecks.{fieldChecks, fieldsChecks, Asked, nothing, openingAsked, twinsAsked, weightAsked, laterAsked, frontToBack, fileChecks, both}
 use Rattle.reading.specs.Reading.{shortRoom, readVerdict, readFile}
-use Rattle.filechecks.proofs.Sound.{opening-kept, edges-few, few-creases}
+use Rattle.filechecks.proofs.Sound.{opening-kept, edges-few, few-creases, longest}
 use Rattle.reading.proofs.Verdict.{read-sound}
 use Rattle.reading.proofs.Outcomes.{valuesIn}
 use Rattle.writing.specs.Writing.{writeChecks, writeVerdict, written, writeFile}
-use Rattle.writing.proofs.Accepted.{accepted-fits, creased-kept, write-fits as write-kept}
-use Rattle.moves.specs.Moves.{cageMoves, moveVerdict, move}
+use Rattle.writing.proofs.Accepted.{write-fits as write-kept}
+use Rattle.filelaws.proofs.Accepted.{accepted-length}
+use Rattle.moves.specs.Moves.{cageMoves, moveChecks, moveRoom, moveVerdict, move}
 use Rattle.stl.specs.File.{stlFile}
 use Rattle.stl.specs.Writing.{stlVerdict, writeStl}
 use Rattle.stl.proofs.FacetLaws.{file-length as stl-length}
@@ -345,26 +346,32 @@ module _ (from to : Form) (f lent : List ℕ) where
   abbrev moved : Cage
   moved = cageIn f
 
-  cage-moves-small : Small (first (cageMoves to moved lent))
+  cage-moves-small : Small (first (cageMoves to moved))
   unfolding cageMoves
   cage-moves-small =
       joined-small (creasedChecks (moved .connectivity) (moved .creases) (moved .points) 0) _ (creased-small (moved .connectivity) (moved .creases) (moved .points) 0)
-      (λ _. first-small _ (given-small _ NOT-OLD (omega arith, omega arith), (short-small 5 _ _ (omega arith), tt)))
+      (λ _. first-small _ (given-small _ NOT-OLD (omega arith, omega arith), tt))
 
-  numbered : (form : Form) → length (moved .creases) ≡ E (moved .connectivity .twin) → Numbered form moved
-  numbered One e = tt
-  numbered Two e = e
+  checks-small : Small (first (moveChecks from to f))
+  unfolding moveChecks
+  checks-small = joined-small (fileChecks (from ∷ []) f) _ (file-small f (from ∷ [])) (λ _. cage-moves-small)
+
+  -- no form's longest file is too long
+  short-enough : (form : Form) → longest form < 4294967296
+  short-enough One = omega arith
+  short-enough Two = omega arith
 
   move-done : moveVerdict from to f lent .number ≡ 0 → length (file to moved) < 4294967296
-  unfolding moveVerdict cageMoves
+  unfolding moveVerdict moveChecks cageMoves
   move-done z =
       let checks = creasedChecks (moved .connectivity) (moved .creases) (moved .points) 0 in
-      let kept = creased-kept (moved .connectivity) (moved .creases) (moved .points) (done-both checks _ (done-both (fileChecks (from ∷ []) f) _ (first-zero _ z) .1) .0) in
-      file-fits to moved (accepted-fits (moved .connectivity) (moved .points) (kept .0)) (numbered to (kept .1))
+      let passed = done-both (moveChecks from to f) _ (first-zero _ z) .0 in
+      let accepted = done-both checks _ (done-both (fileChecks (from ∷ []) f) _ passed .1) .0 in
+      omega (arith, accepted-length to moved accepted, short-enough to)
 
   pub move-fits : Fitting (lengthCells (move from to f lent .answer))
-  unfolding move moveVerdict
-  move-fits = written-fits _ _ lent (joined-small (fileChecks (from ∷ []) f) _ (file-small f (from ∷ [])) (λ _. cage-moves-small)) move-done
+  unfolding move moveVerdict moveRoom
+  move-fits = written-fits _ _ lent (joined-small (moveChecks from to f) _ checks-small (λ _. room-small _ _)) move-done
 
 module _ (vert : List ℕ) (points : List ℤ) (lent : List ℕ) where
   stl-done : stlVerdict vert points lent .number ≡ 0 → length (stlFile vert points) < 4294967296

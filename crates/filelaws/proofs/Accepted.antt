@@ -2,8 +2,11 @@
 --     accepted-form     either form where the cage check accepts it with its creases, form 1 where it is plain
 --     same-checks       which is what writing checks, of a plain cage too
 --     checked-form      so whatever writing takes fits
+--     accepted-length   and its file is no longer than the longest that reads
+use Prim.Native.Nat.{_≤_}
 use mathlib.Core.Path.{_≡_, refl, sym, ap, _∙_}
 use mathlib.Core.List.{List}
+use native.Mathlib.Omega.{arith}
 use lib.IntN.{ℤ}
 use lib.ListN.{length}
 use Rattle.halfedges.specs.Cage.{E}
@@ -16,8 +19,9 @@ use Rattle.points.specs.Operations.{cageChecks, creasedChecks}
 use Rattle.sharpness.proofs.Checks.{zeros-checks}
 use Rattle.cagefile.specs.declared.fields.Form.{Form}
 use Rattle.cagefile.specs.declared.fields.Form.the-variants.{One, Two}
-use Rattle.cagefile.specs.Fields.{Cage}
-use Rattle.cagefile.proofs.Fits.{Numbered}
+use Rattle.cagefile.specs.Fields.{Cage, file}
+use Rattle.cagefile.proofs.Fits.{Fits, Numbered, edges-at-most, file-length}
+use Rattle.filechecks.proofs.Sound.{longest}
 use Rattle.writing.specs.Writing.{writeChecks}
 use Rattle.writing.proofs.Accepted.{accepted-fits, creased-kept}
 use Rattle.filelaws.proofs.ReadBack.{PlainIn, FitsForm}
@@ -55,3 +59,12 @@ same-checks Two w plain = refl
 
 pub checked-form : (form : Form) (w : Cage) → first (writeChecks form w) ≡ DONE → PlainIn form w → FitsForm form w
 checked-form form w e plain = accepted-form form w (sym (same-checks form w plain) ∙ e) plain
+
+pub accepted-length : (form : Form) (w : Cage) → Accepted w → length (file form w) ≤ longest form
+accepted-length form w e =
+    let kept = creased-kept (w .connectivity) (w .creases) (w .points) e in
+    by form (accepted-fits (w .connectivity) (w .points) (kept .0)) (kept .1)
+  where
+    by : (form : Form) → Fits (w .connectivity) (w .points) → length (w .creases) ≡ E (w .connectivity .twin) → length (file form w) ≤ longest form
+    by One fits long = omega (arith, file-length w (fits .shaped) One, fits .few-halfedges, fits .few-vertices)
+    by Two fits long = omega (arith, file-length w (fits .shaped) Two, fits .few-halfedges, fits .few-vertices, edges-at-most (w .connectivity .twin))

@@ -6,7 +6,7 @@ use Prim.Native.Nat.{ℕ, _≤_}
 use mathlib.Core.Path.{_≡_, refl, sym, ap, ap₂, _∙_}
 use mathlib.Core.Logic.{_≢_}
 use mathlib.Core.Bool.{true, false}
-use mathlib.Core.List.{List}
+use mathlib.Core.List.{List, [], _∷_, _++_, append-nil}
 use native.Mathlib.Omega.{arith}
 use lib.Dec.{ltb}
 use lib.ListN.{length, length-replicate}
@@ -29,17 +29,20 @@ use Rattle.cagefile.specs.Fields.{Cage, file}
 use Rattle.writing.specs.Writing.{plain, writeVerdict, Written, written, writeFile}
 use Rattle.filelaws.proofs.ReadBack.{PlainIn}
 use Rattle.filelaws.proofs.Accepted.{same-checks}
-use Rattle.moves.specs.Moves.{numbered, notOld, cageMoves}
+use Rattle.moves.specs.Moves.{numbered, notOld, cageMoves, moveRoom}
 
 -- v is the first of the checks with creases
 module _ (form : Form) (w : Cage) (lent : List ℕ) (v : Verdict) (e : v ≡ first (creasedChecks (w .connectivity) (w .creases) (w .points) 0)) where
-  pub moves-refused : v .number ≢ 0 → v ≡ first (cageMoves form w lent)
+  pub moves-refused : v .number ≢ 0 → v ≡ first (cageMoves form w ++ moveRoom form w lent)
   unfolding cageMoves
-  moves-refused r = first-stops _ _ v e r
+  moves-refused r = first-stops (cageMoves form w) _ v (first-stops _ _ v e r) r
 
-  pub moves-not-old : v .number ≡ 0 → notOld form w ≡ true → NOT-OLD ≡ first (cageMoves form w lent)
+  not-old : v .number ≡ 0 → notOld form w ≡ true → NOT-OLD ≡ first (cageMoves form w)
   unfolding cageMoves first given
-  moves-not-old z n = sym (first-passes (creasedChecks (w .connectivity) (w .creases) (w .points) 0) _ v e z ∙ rw n)
+  not-old z n = sym (first-passes (creasedChecks (w .connectivity) (w .creases) (w .points) 0) _ v e z ∙ rw n)
+
+  pub moves-not-old : v .number ≡ 0 → notOld form w ≡ true → NOT-OLD ≡ first (cageMoves form w ++ moveRoom form w lent)
+  moves-not-old z n = first-stops (cageMoves form w) _ NOT-OLD (not-old z n) (λ q. omega arith)
 
 -- ---- plain cages
 
@@ -69,13 +72,20 @@ plain-old Two w p = refl
 -- ---- what the move of a cage leaves
 
 abbrev pub moved : Form → Cage → List ℕ → Written
-moved form w lent = written (first (cageMoves form w lent)) (file form w) lent
+moved form w lent = written (first (cageMoves form w ++ moveRoom form w lent)) (file form w) lent
+
+-- 16 is not given of a plain cage, so that the checks are the check's
+old-checks : (form : Form) (w : Cage) → PlainIn form w → first (cageMoves form w) ≡ first (creasedChecks (w .connectivity) (w .creases) (w .points) 0)
+unfolding cageMoves
+old-checks form w p =
+    let checks = creasedChecks (w .connectivity) (w .creases) (w .points) 0 in
+    of-parts checks checks _ [] refl (first-passed (given (notOld form w) NOT-OLD) [] (is-passed (notOld form w) NOT-OLD (plain-old form w p)))
+    ∙ ap first (append-nil checks)
 
 pub plain-written : (form : Form) (w : Cage) (lent : List ℕ) → PlainIn form w → writeFile form w lent ≡ moved form w lent
-unfolding writeFile writeVerdict cageMoves
+unfolding writeFile writeVerdict moveRoom
 plain-written form w lent p =
-    ap (λ v. written v (file form w) lent)
-    (of-parts _ _ _ _ (same-checks form w p) (sym (first-passed (given (notOld form w) NOT-OLD) _ (is-passed (notOld form w) NOT-OLD (plain-old form w p)))))
+    ap (λ v. written v (file form w) lent) (of-parts _ _ _ _ (same-checks form w p ∙ sym (old-checks form w p)) refl)
 
 -- a plain cage's file of form 1 is that of its tables and points
 pub old-written : (w : Cage) (lent : List ℕ) → PlainIn One w → writeFile One (plain (w .connectivity) (w .points)) lent ≡ moved One w lent

@@ -21,7 +21,7 @@ use Rattle.filelaws.proofs.ReadBack.{cage-of-file}
 use Rattle.filelaws.proofs.Accepted.{Accepted, accepted-form}
 use Rattle.filelaws.proofs.RoundTrips.{fileOf}
 use Rattle.filelaws.proofs.ThereAndBack.{plain-in, form-asked, moved-passes, moved-back}
-use Rattle.moves.specs.Moves.{notOld, cageMoves, moveVerdict, move}
+use Rattle.moves.specs.Moves.{notOld, cageMoves, moveChecks, moveRoom, moveVerdict, move}
 use Rattle.moves.proofs.CageMoves.{old-plain, plain-old}
 
 -- a file written whole in front of what was lent
@@ -34,18 +34,20 @@ move-done from to f lent e = rw e
 
 module _ (from to : Form) (f lent : List ℕ) where
   kept : moveVerdict from to f lent ≡ DONE → (first (fileChecks (from ∷ []) f) ≡ DONE) × Accepted (cageIn f) × (notOld to (cageIn f) ≡ false)
-  unfolding moveVerdict cageMoves
+  unfolding moveVerdict moveChecks cageMoves
   kept e =
       let w = cageIn f in
-      let (a, b) = done-both (fileChecks (from ∷ []) f) _ e in
+      let (a, b) = done-both (fileChecks (from ∷ []) f) _ (done-both (moveChecks from to f) _ e .0) in
       let (c, d) = done-both (creasedChecks (w .connectivity) (w .creases) (w .points) 0) _ b in
       (a, c, done-passes _ _ _ refl d .0)
 
   passes : first (fileChecks (from ∷ []) f) ≡ DONE → Accepted (cageIn f) → notOld to (cageIn f) ≡ false → length (file to (cageIn f)) ≤ length lent → moveVerdict from to f lent ≡ DONE
-  unfolding moveVerdict cageMoves first given short
+  unfolding moveVerdict moveChecks cageMoves moveRoom first given short
   passes a c n l =
       let w = cageIn f in
-      first-more (fileChecks (from ∷ []) f) _ a ∙ first-more (creasedChecks (w .connectivity) (w .creases) (w .points) 0) _ c ∙ rw (n, le-ltb (length lent) (length (file to w)) l)
+      let checks : first (moveChecks from to f) ≡ DONE =
+      first-more (fileChecks (from ∷ []) f) _ a ∙ first-more (creasedChecks (w .connectivity) (w .creases) (w .points) 0) _ c ∙ rw n in
+      first-more (moveChecks from to f) _ checks ∙ rw (le-ltb (length lent) (length (file to w)) l)
 
 pub there-and-back : (from to : Form) (f lent : List ℕ) → moveVerdict from to f lent ≡ DONE → Bytes f
     → (lentBack : List ℕ) → length f ≤ length lentBack → move to from (fileOf (move from to f lent)) lentBack ≡ allWritten f lentBack

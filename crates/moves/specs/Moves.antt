@@ -26,15 +26,20 @@ abbrev pub notOld : Form → Cage → Bool
 notOld One w = numbered (w .creases) (w .weight)
 notOld Two w = false
 
--- "the cage checks, 16 .. for the move back, then 9 at place 5"
-unfoldable pub cageMoves : Form → Cage → List ℕ → List Verdict
-cageMoves to w lent =
-    creasedChecks (w .connectivity) (w .creases) (w .points) 0
-    ++ (given (notOld to w) NOT-OLD ∷ short 5 (length (file to w)) (length lent) ∷ [])
+-- "the cage checks, 16 .. for the move back"
+unfoldable pub cageMoves : Form → Cage → List Verdict
+cageMoves to w = creasedChecks (w .connectivity) (w .creases) (w .points) 0 ++ (given (notOld to w) NOT-OLD ∷ [])
 
 -- "a move gives reading's but 9", of a file of the form that it starts from, then those
+unfoldable pub moveChecks : Form → Form → List ℕ → List Verdict
+moveChecks from to f = fileChecks (from ∷ []) f ++ cageMoves to (cageIn f)
+
+-- "then 9 at place 5"
+unfoldable pub moveRoom : Form → Cage → List ℕ → List Verdict
+moveRoom to w lent = short 5 (length (file to w)) (length lent) ∷ []
+
 unfoldable pub moveVerdict : Form → Form → List ℕ → List ℕ → Verdict
-moveVerdict from to f lent = first (fileChecks (from ∷ []) f ++ cageMoves to (cageIn f) lent)
+moveVerdict from to f lent = first (moveChecks from to f ++ moveRoom to (cageIn f) lent)
 
 -- the file of the same cage in the other form; done returns its length
 unfoldable pub move : Form → Form → List ℕ → List ℕ → Written

@@ -1,6 +1,6 @@
 // The moves between the forms of a cage file: a file is read into tables on the stack, and its cage written in the other form.
 ghost use mathlib.Core.Path.{_≡_};
-ghost use mathlib.Core.List.{[], _∷_};
+ghost use mathlib.Core.List.{[], _∷_, _++_};
 ghost use lib.ListN.{length};
 ghost use Rattle.cagefile.specs.declared.fields.Form.the-variants.{One, Two};
 ghost use Rattle.halfedges.specs.Cage.{E};
@@ -10,7 +10,7 @@ ghost use Rattle.cagefile.specs.Fields.{Cage, file as Fields·file};
 ghost use Rattle.filechecks.specs.FileChecks.{fileChecks};
 ghost use Rattle.reading.specs.Internal.Fronts.{Ample, Fronts};
 ghost use Rattle.writing.specs.Writing.{wrote, written};
-ghost use Rattle.moves.specs.Moves.{numbered, cageMoves, move};
+ghost use Rattle.moves.specs.Moves.{numbered, cageMoves, moveRoom, move};
 use cagefile::fields::Form;
 use halfedges::answer::Answer;
 use halfedges::table::HalfedgeTable;
@@ -124,7 +124,7 @@ fn write_form(
     ensures { λ r.
         let c = tables (now (twin .entry)) (now (vert .entry)) (now (edge .entry)) in
         let w : Cage = record { connectivity = c; points = now (points .entry); creases = now (creases .entry); weight = weight } in
-        let after = written (first (cageMoves form w (now (lent .entry)))) (Fields·file form w) (now (lent .entry)) in
+        let after = written (first (cageMoves form w ++ moveRoom form w (now (lent .entry)))) (Fields·file form w) (now (lent .entry)) in
         ⌜ (wrote r ≡ after .answer) × (now (lent .exit) ≡ after .file) ⌝ }
 {
     if let Form::Two = form {
