@@ -3,14 +3,11 @@
 --     bytes-read                             a payload of one byte a number
 --     weight-read, weight-put, weight-small  the byte of a weight
 use Prim.Native.Nat.{ℕ, zero, suc, _+_, _≤_}
-use mathlib.Core.Path.{_≡_, refl, sym, ap, _∙_}
-use mathlib.Core.Bool.{false, true≢false}
-use mathlib.Core.List.{List, [], _∷_}
-use native.Mathlib.Decide.{ℕ-discrete}
+use mathlib.Core.Path.{_≡_, refl, sym, _∙_}
+use mathlib.Core.List.{List}
 use native.Mathlib.Omega.{arith}
 use lib.ListN.{length, getD, take, drop}
 use lib.Seq.{length-take-le, getD-take, getD-drop}
-use borrow.Author.Tests.{ne-eqb}
 use Rattle.laws.specs.Below.{tabulate}
 use Rattle.laws.proofs.Tabulate.{tabulate-ext, tabulate-cells}
 use Rattle.halfedges.specs.Cage.{E}
@@ -20,11 +17,9 @@ use Rattle.points.specs.Weights.{weightOf, weightNumber}
 use Rattle.points.specs.Operations.{vertices}
 use Rattle.cagefile.specs.declared.fields.Form.{Form}
 use Rattle.cagefile.specs.declared.fields.Form.the-variants.{One, Two}
-use Rattle.cagefile.specs.Fields.{number, laterHeads, heads}
-use Rattle.filechecks.specs.Contents.{formIn, HIn, VIn, edgesFor, formOf, twinsIn, headsIn, pointsIn}
-use Rattle.filechecks.specs.FileChecks.{otherForm}
+use Rattle.cagefile.specs.Fields.{laterHeads, heads}
+use Rattle.filechecks.specs.Contents.{HIn, VIn, edgesFor, formOf, twinsIn, headsIn, pointsIn}
 use Rattle.filechecks.proofs.Lengths.{points-length}
-use Rattle.filechecks.proofs.Sound.{form-is}
 
 module _ (f : List ℕ) where
   -- form 1 counts no edges

@@ -1,14 +1,12 @@
 -- `read` gives `refusal`'s answer; where that is done it lets the copiers fill the lent tables.
 use borrow.Author.Needs.{needs}
-use Prim.Native.Nat.{ℕ, _+_, _*_, _≤_}
+use Prim.Native.Nat.{ℕ}
 use mathlib.Core.Path.{_≡_, sym, _∙_}
 use mathlib.Core.List.{List}
 use native.Mathlib.Omega.{arith}
-use lib.ListN.{length}
 use Rattle.halfedges.specs.Refusals.{DONE}
 use Rattle.halfedges.proofs.Checks.{first-zero}
 use Rattle.tables.specs.Tables.{Tables, tables}
-use Rattle.filechecks.specs.Contents.{HIn, VIn}
 use Rattle.reading.specs.Reading.{readVerdict}
 use Rattle.filechecks.specs.Internal.Sound.{Sound}
 use Rattle.reading.specs.Internal.Room.{RoomFor}
