@@ -40,7 +40,6 @@ use Rattle.building.proofs.Outcome.{limits}
 use Rattle.cagefile.specs.declared.fields.Form.{Form}
 use Rattle.cagefile.specs.declared.fields.Form.the-variants.{One, Two}
 use Rattle.cagefile.specs.Fields.{Cage, number, Head, opening, tableHeads, laterHeads, heads, file}
-use Rattle.cagefile.proofs.Fits.{Fits, Numbered, edges-at-most, file-length}
 use Rattle.filechecks.specs.Contents.{HIn, VIn, formOf, edgesFor, twinsIn, headsIn, weightIn, cageIn, past}
 use Rattle.filechecks.specs.FileChecks.{fieldChecks, fieldsChecks, Asked, nothing, openingAsked, twinsAsked, weightAsked, laterAsked, frontToBack, fileChecks, both}
 use Rattle.reading.specs.Reading.{shortRoom, readVerdict, readFile}
@@ -49,7 +48,7 @@ use Rattle.reading.proofs.Verdict.{read-sound}
 use Rattle.reading.proofs.Outcomes.{valuesIn}
 use Rattle.writing.specs.Writing.{writeChecks, writeVerdict, written, writeFile}
 use Rattle.writing.proofs.Accepted.{write-fits as write-kept}
-use Rattle.filelaws.proofs.Accepted.{accepted-length}
+use Rattle.filelaws.proofs.Accepted.{fits-length, accepted-length}
 use Rattle.moves.specs.Moves.{cageMoves, moveChecks, moveRoom, moveVerdict, move}
 use Rattle.stl.specs.File.{stlFile}
 use Rattle.stl.specs.Writing.{stlVerdict, writeStl}
@@ -315,10 +314,10 @@ module _ (f : List ℕ) (x : Tables) (xp : List ℤ) (xc : List ℕ) where
   unfolding readFile said
   read-fits = (read-small .0, (read-small .1, fitting-when (readVerdict f x xp xc) _ _ read-done zeros-fit))
 
--- a file of a cage that the checks accept
-file-fits : (form : Form) (w : Cage) → Fits (w .connectivity) (w .points) → Numbered form w → length (file form w) < 4294967296
-file-fits One w fits n = omega (arith, file-length w (fits .shaped) One, fits .few-halfedges, fits .few-vertices)
-file-fits Two w fits n = omega (arith, file-length w (fits .shaped) Two, fits .few-halfedges, fits .few-vertices, edges-at-most (w .connectivity .twin), n)
+-- no longest file is too long for a cell
+short-file : (form : Form) (n : ℕ) → n ≤ longest form → n < 4294967296
+short-file One n l = omega arith
+short-file Two n l = omega arith
 
 -- what writing answers, where its verdict fits and, done, its bytes are not too many
 written-fits : (v : Verdict) (bytes lent : List ℕ) → Small v → (v .number ≡ 0 → length bytes < 4294967296) → Fitting (lengthCells (written v bytes lent .answer))
@@ -336,7 +335,7 @@ module _ (form : Form) (w : Cage) (lent : List ℕ) where
 
   write-done : writeVerdict form w lent .number ≡ 0 → length (file form w) < 4294967296
   unfolding writeVerdict
-  write-done z = let k = write-kept form w lent (first-zero _ z) in file-fits form w (k .0) (k .1)
+  write-done z = let k = write-kept form w lent (first-zero _ z) in short-file form _ (fits-length form w (k .0) (k .1))
 
   pub write-fits : Fitting (lengthCells (writeFile form w lent .answer))
   unfolding writeFile writeVerdict
@@ -356,18 +355,13 @@ module _ (from to : Form) (f lent : List ℕ) where
   unfolding moveChecks
   checks-small = joined-small (fileChecks (from ∷ []) f) _ (file-small f (from ∷ [])) (λ _. cage-moves-small)
 
-  -- no form's longest file is too long
-  short-enough : (form : Form) → longest form < 4294967296
-  short-enough One = omega arith
-  short-enough Two = omega arith
-
   move-done : moveVerdict from to f lent .number ≡ 0 → length (file to moved) < 4294967296
   unfolding moveVerdict moveChecks cageMoves
   move-done z =
       let checks = creasedChecks (moved .connectivity) (moved .creases) (moved .points) 0 in
       let passed = done-both (moveChecks from to f) _ (first-zero _ z) .0 in
       let accepted = done-both checks _ (done-both (fileChecks (from ∷ []) f) _ passed .1) .0 in
-      omega (arith, accepted-length to moved accepted, short-enough to)
+      short-file to _ (accepted-length to moved accepted)
 
   pub move-fits : Fitting (lengthCells (move from to f lent .answer))
   unfolding move moveVerdict moveRoom

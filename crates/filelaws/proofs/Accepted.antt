@@ -2,7 +2,7 @@
 --     accepted-form     either form where the cage check accepts it with its creases, form 1 where it is plain
 --     same-checks       which is what writing checks, of a plain cage too
 --     checked-form      so whatever writing takes fits
---     accepted-length   and its file is no longer than the longest that reads
+--     fits-length       what fits has a file no longer than the longest that reads, and so has what is accepted (`accepted-length`)
 use Prim.Native.Nat.{_≤_}
 use mathlib.Core.Path.{_≡_, refl, sym, ap, _∙_}
 use mathlib.Core.List.{List}
@@ -38,19 +38,19 @@ twins-kept c points e =
     let limits = done-passes _ _ _ refl (shape .1) in
     done-nowhere (length (c .twin)) (badTwin (c .twin)) TWIN _ (λ _. refl) (limits .1) .0
 
+numbers : (form : Form) (w : Cage) → length (w .creases) ≡ E (w .connectivity .twin) → Numbered form w
+numbers One w long = tt
+numbers Two w long = long
+
 pub accepted-form : (form : Form) (w : Cage) → Accepted w → PlainIn form w → FitsForm form w
 accepted-form form w e plain =
     let kept = creased-kept (w .connectivity) (w .creases) (w .points) e in
     record {
       fits = accepted-fits (w .connectivity) (w .points) (kept .0);
       twinned = twins-kept (w .connectivity) (w .points) (kept .0);
-      numbered = numbers (kept .1) form;
+      numbered = numbers form w (kept .1);
       plain = plain;
     }
-  where
-    numbers : length (w .creases) ≡ E (w .connectivity .twin) → (form : Form) → Numbered form w
-    numbers long One = tt
-    numbers long Two = long
 
 pub same-checks : (form : Form) (w : Cage) → PlainIn form w → first (writeChecks form w) ≡ first (creasedChecks (w .connectivity) (w .creases) (w .points) 0)
 unfolding writeChecks
@@ -60,11 +60,11 @@ same-checks Two w plain = refl
 pub checked-form : (form : Form) (w : Cage) → first (writeChecks form w) ≡ DONE → PlainIn form w → FitsForm form w
 checked-form form w e plain = accepted-form form w (sym (same-checks form w plain) ∙ e) plain
 
+pub fits-length : (form : Form) (w : Cage) → Fits (w .connectivity) (w .points) → Numbered form w → length (file form w) ≤ longest form
+fits-length One w fits n = omega (arith, file-length w (fits .shaped) One, fits .few-halfedges, fits .few-vertices)
+fits-length Two w fits n = omega (arith, file-length w (fits .shaped) Two, fits .few-halfedges, fits .few-vertices, edges-at-most (w .connectivity .twin), n)
+
 pub accepted-length : (form : Form) (w : Cage) → Accepted w → length (file form w) ≤ longest form
 accepted-length form w e =
     let kept = creased-kept (w .connectivity) (w .creases) (w .points) e in
-    by form (accepted-fits (w .connectivity) (w .points) (kept .0)) (kept .1)
-  where
-    by : (form : Form) → Fits (w .connectivity) (w .points) → length (w .creases) ≡ E (w .connectivity .twin) → length (file form w) ≤ longest form
-    by One fits long = omega (arith, file-length w (fits .shaped) One, fits .few-halfedges, fits .few-vertices)
-    by Two fits long = omega (arith, file-length w (fits .shaped) Two, fits .few-halfedges, fits .few-vertices, edges-at-most (w .connectivity .twin))
+    fits-length form w (accepted-fits (w .connectivity) (w .points) (kept .0)) (numbers form w (kept .1))
