@@ -9,9 +9,9 @@ use native.Mathlib.Omega.{arith}
 use lib.IntN.{ℤ, pos, natAbs}
 use lib.ListN.{length, getD, length-append, length-map}
 use Rattle.laws.proofs.Chunks.{length-flatMap}
-use Rattle.laws.proofs.Counts.{count-at-most}
-use Rattle.halfedges.specs.Cage.{marker, E, above, most-halfedges, most-vertices, cell}
+use Rattle.halfedges.specs.Cage.{marker, E, most-halfedges, most-vertices, cell}
 use Rattle.tables.specs.Tables.{Tables}
+use Rattle.tables.proofs.EdgeCount.{edges-at-most}
 use Rattle.points.specs.Weights.{weightNumber}
 use Rattle.points.specs.Operations.{vertices, most-coordinate}
 use Rattle.cagefile.specs.declared.fields.Form.{Form}
@@ -48,11 +48,6 @@ length-u16s = length-flatMap u16 2 (λ _. refl)
 
 pub length-coordinates : (zs : List ℤ) → length (flatMap u32 (map twos zs)) ≡ 4 * length zs
 length-coordinates zs = length-flatMap u32 4 (λ _. refl) (map twos zs) ∙ ap (λ n. 4 * n) (length-map zs twos)
-
--- no more edges than halfedges
-pub edges-at-most : (twin : List ℕ) → E twin ≤ length twin
-unfolding E
-edges-at-most twin = count-at-most (length twin) (above twin)
 
 -- a number for each edge, in the form that has them
 abbrev pub Numbered : Form → Cage → Type 0

@@ -17,11 +17,12 @@ use Rattle.halfedges.specs.Cage.{E, most-halfedges, most-vertices}
 use Rattle.halfedges.specs.Refusals.{DONE, first}
 use Rattle.halfedges.proofs.Checks.{done-both, done-passes}
 use Rattle.halfedges.proofs.Questions.{limits-kept}
+use Rattle.tables.proofs.EdgeCount.{edges-at-most}
 use Rattle.cagefile.specs.declared.fields.Form.{Form}
 use Rattle.cagefile.specs.declared.fields.Form.the-variants.{One, Two}
 use Rattle.cagefile.specs.Fields.{number, opening, tableHeads, laterHeads, heads}
 use Rattle.cagefile.specs.Numbers.{u16At}
-use Rattle.cagefile.proofs.Fits.{edges-at-most, extra}
+use Rattle.cagefile.proofs.Fits.{extra}
 use Rattle.filechecks.specs.Contents.{formIn, HIn, VIn, EIn, edgesFor, formOf, twinsIn, headsIn, payloadAt, payload, past}
 use Rattle.filechecks.specs.FileChecks.{fieldChecks, fieldsChecks, otherForm, openingAsked, twinsAsked, weightAsked, laterAsked, fileChecks, both}
 use Rattle.filechecks.specs.Internal.Sound.{frontChecks, Sound}

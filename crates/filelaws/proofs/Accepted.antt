@@ -15,12 +15,13 @@ use Rattle.halfedges.proofs.Checks.{Clean, done-passes, done-nowhere}
 use Rattle.tables.specs.Tables.{Tables}
 use Rattle.tables.specs.Rules.{badTwin}
 use Rattle.tables.specs.Check.{rules}
+use Rattle.tables.proofs.EdgeCount.{edges-at-most}
 use Rattle.points.specs.Operations.{cageChecks, creasedChecks}
 use Rattle.sharpness.proofs.Checks.{zeros-checks}
 use Rattle.cagefile.specs.declared.fields.Form.{Form}
 use Rattle.cagefile.specs.declared.fields.Form.the-variants.{One, Two}
 use Rattle.cagefile.specs.Fields.{Cage, file}
-use Rattle.cagefile.proofs.Fits.{Fits, Numbered, edges-at-most, file-length}
+use Rattle.cagefile.proofs.Fits.{Fits, Numbered, file-length}
 use Rattle.filechecks.proofs.Sound.{longest}
 use Rattle.writing.specs.Writing.{writeChecks}
 use Rattle.writing.proofs.Accepted.{accepted-fits, creased-kept}

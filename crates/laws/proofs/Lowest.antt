@@ -1,12 +1,12 @@
--- The lowest number that passes a test: `lowest-is`, `lowest-none`, `lowest-within`, `lowest-at-most`, `lowest-passes`, `below-lowest`.
--- Assumes nothing.
+-- The lowest number that passes a test: `lowest-is`, `lowest-none`, `lowest-within`, `lowest-at-most`, `lowest-passes`, `below-lowest`,
+-- `lowest-of-some`. Assumes nothing.
 use Prim.Native.Nat.{ℕ, zero, suc, _≤_, _<_, zero-le, suc-le-suc}
 use mathlib.Core.Path.{_≡_, refl, sym, ap, _∙_}
 use mathlib.Core.Bool.{Bool, true, false, cond, true≢false}
 use native.Mathlib.Nat.{not-suc-le-zero, le-of-suc-le-suc}
 use native.Mathlib.Omega.{arith}
-use Rattle.laws.specs.Below.{lowest}
-use Rattle.laws.proofs.Tests.{by-test}
+use Rattle.laws.specs.Below.{any, lowest}
+use Rattle.laws.proofs.Tests.{by-test, any-true}
 
 -- k passes, and none below it
 pub lowest-is : (n : ℕ) (p : ℕ → Bool) (k : ℕ) → k < n → p k ≡ true → ((j : ℕ) → j < k → p j ≡ false) → lowest n p ≡ k
@@ -53,3 +53,9 @@ lowest-passes (suc n) p k l e = by (p 0) refl k l e (lowest-passes n (λ j. p (s
 -- none below it passes
 pub below-lowest : (n : ℕ) (p : ℕ → Bool) (k : ℕ) → k < lowest n p → p k ≡ false
 below-lowest n p k l = by-test (p k) (λ t. absurd (omega (arith, lowest-at-most n p k (omega (arith, lowest-within n p)) t))) (λ f. f)
+
+-- it is below n and passes, where one does
+pub lowest-of-some : (n : ℕ) (p : ℕ → Bool) → any n p ≡ true → (lowest n p < n) × (p (lowest n p) ≡ true)
+lowest-of-some n p e =
+    let m = any-true p n e in
+    (omega (arith, lowest-at-most n p (m .0) (m .1) (m .2), m .1), lowest-passes n p (m .0) (m .1) (m .2))

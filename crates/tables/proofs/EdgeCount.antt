@@ -1,4 +1,5 @@
 -- Edges, counted. In tables of at most as many halfedges as the marker:
+--     edges-at-most                no more than halfedges, in any tables
 --     twin-has-twin                TWIN leads back
 --     above-border, above-twin     a halfedge without twin stands above, and of two twins one does
 --     partner, pairing             the twin, or where there is none the halfedge itself: a turning
@@ -24,6 +25,10 @@ use Rattle.halfedges.specs.Cage.{marker, cell, border, above, E, B}
 use Rattle.halfedges.specs.Counts.{countShape}
 use Rattle.tables.specs.Tables.{Tables, countsOf}
 use Rattle.tables.specs.Ruled.{Shaped, Paired, Numbered, Ruled}
+
+pub edges-at-most : (twin : List ℕ) → E twin ≤ length twin
+unfolding E
+edges-at-most twin = count-at-most (length twin) (above twin)
 
 pub above-border : (twin : List ℕ) (h : ℕ) → cell twin h ≡ marker → above twin h ≡ true
 unfolding above

@@ -93,27 +93,27 @@ module _ (vert : List ℕ) (v : ℕ) where
 
 -- ---- 6
 
+-- who carries h's edge and is no stranger
+pub known : (twin edge : List ℕ) (g h : ℕ) → cell edge g ≡ cell edge h → stranger twin edge h g ≡ false → (g ≡ h) ⊎ (g ≡ cell twin h)
+unfolding stranger
+known twin edge g h c e = by (ℕ-discrete g h) (ℕ-discrete g (cell twin h))
+  where
+    by : Dec (g ≡ h) → Dec (g ≡ cell twin h) → (g ≡ h) ⊎ (g ≡ cell twin h)
+    by (yes q) d = inl q
+    by (no q) (yes t) = inr t
+    by (no q) (no t) = absurd (true≢false (rw (eq-eqb _ _ c, ne-eqb g h q, ne-eqb g (cell twin h) t) at e))
+
 module _ (twin edge : List ℕ) (same : length edge ≡ length twin) where
   edge-tests : (h : ℕ) → badEdge twin edge (E twin) h ≡ false → (leb (E twin) (cell edge h) ≡ false) × (not (border twin h) && not (eqb (cell edge (cell twin h)) (cell edge h)) ≡ false) × (any (length edge) (stranger twin edge h) ≡ false)
   unfolding badEdge
   edge-tests h e = or-false₃ _ _ _ e
-
-  -- who carries h's edge and is no stranger
-  known : (g h : ℕ) → cell edge g ≡ cell edge h → stranger twin edge h g ≡ false → (g ≡ h) ⊎ (g ≡ cell twin h)
-  unfolding stranger
-  known g h c e = by (ℕ-discrete g h) (ℕ-discrete g (cell twin h))
-    where
-      by : Dec (g ≡ h) → Dec (g ≡ cell twin h) → (g ≡ h) ⊎ (g ≡ cell twin h)
-      by (yes q) d = inl q
-      by (no q) (yes t) = inr t
-      by (no q) (no t) = absurd (true≢false (rw (eq-eqb _ _ c, ne-eqb g h q, ne-eqb g (cell twin h) t) at e))
 
   pub numbered : Clean (length twin) (badEdge twin edge (E twin)) → Numbered twin edge
   numbered f =
       record {
         below = λ h l. leb-false (E twin) (cell edge h) (edge-tests h (f h l) .0);
         twin-same = λ h l n. eqb-true _ _ (clause twin h _ (edge-tests h (f h l) .1) n);
-        own = λ g h lg lh c. known g h c (any-false (stranger twin edge h) (length edge) (edge-tests h (f h lh) .2) g (rw same lg));
+        own = λ g h lg lh c. known twin edge g h c (any-false (stranger twin edge h) (length edge) (edge-tests h (f h lh) .2) g (rw same lg));
       }
 
   no-stranger : Numbered twin edge → (g h : ℕ) → g < length twin → h < length twin → stranger twin edge h g ≡ false

@@ -20,13 +20,14 @@ use Rattle.tables.specs.Tables.{Tables}
 use Rattle.tables.specs.Rules.{misshapen, badTwin, badVertex, unused, badEdge}
 use Rattle.tables.specs.Fans.{notOneFan}
 use Rattle.tables.specs.Check.{placing, rules}
+use Rattle.tables.proofs.EdgeCount.{edges-at-most}
 use Rattle.creases.specs.Creases.{misshapenCreases}
 use Rattle.creases.specs.Check.{lengthCheck, creaseCheck, creasedRules}
 use Rattle.points.specs.Operations.{vertices, outOfRange, cageChecks, creasedChecks}
 use Rattle.cagefile.specs.declared.fields.Form.{Form}
 use Rattle.cagefile.specs.declared.fields.Form.the-variants.{One, Two}
 use Rattle.cagefile.specs.Fields.{Cage, file}
-use Rattle.cagefile.proofs.Fits.{Fits, Numbered, edges-at-most}
+use Rattle.cagefile.proofs.Fits.{Fits, Numbered}
 use Rattle.writing.specs.Writing.{writeChecks, writeVerdict}
 
 module _ (c : Tables) (v : ℕ) (h : ℕ) where

@@ -4,10 +4,11 @@ use mathlib.Core.Path.{_≡_, ap, _∙_}
 use native.Mathlib.Omega.{arith}
 use Rattle.halfedges.specs.Refusals.{told, first}
 use Rattle.tables.specs.Tables.{tables}
+use Rattle.tables.proofs.EdgeCount.{edges-at-most}
 use Rattle.cage.proofs.CageChecks.{short-checks}
 use Rattle.cagefile.specs.declared.fields.Form.the-variants.{Two}
 use Rattle.cagefile.specs.Fields.{Cage}
-use Rattle.cagefile.proofs.Fits.{Fits, Numbered, edges-at-most}
+use Rattle.cagefile.proofs.Fits.{Fits, Numbered}
 use Rattle.writing.specs.Writing.{writeChecks}
 use Rattle.writing.proofs.WriteChecks.{write-refused, write-checked, write-short, write-roomy}
 use Rattle.writing.proofs.creased_refusal.Statement.{statement}

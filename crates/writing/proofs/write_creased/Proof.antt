@@ -6,12 +6,13 @@ use mathlib.Core.List.{[], _∷_}
 use native.Mathlib.Omega.{arith}
 use lib.ListN.{length}
 use Rattle.tables.specs.Tables.{tables}
+use Rattle.tables.proofs.EdgeCount.{edges-at-most}
 use Rattle.points.specs.declared.weights.Weight.{Weight}
 use Rattle.points.specs.declared.weights.Weight.the-variants.{Short, Paper}
 use Rattle.points.specs.Weights.{weightNumber}
 use Rattle.cagefile.specs.declared.fields.Form.the-variants.{Two}
 use Rattle.cagefile.specs.Fields.{Cage, laterHeads, laterPayloads}
-use Rattle.cagefile.proofs.Fits.{Fits, Numbered, edges-at-most}
+use Rattle.cagefile.proofs.Fits.{Fits, Numbered}
 use Rattle.writing.proofs.Accepted.{write-fits}
 use Rattle.writing.proofs.WriteChecks.{needed, write-room}
 use Rattle.writing.proofs.FieldWriting.{tables-behind, left-next, points-next, end-written}
