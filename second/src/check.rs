@@ -1,14 +1,16 @@
 //! Document 01, "Why a cage is sent back": the cage check, refusals 1 to 8; and
-//! what document 02 adds in its place: 14 of §4, in refining alone, and of §6
-//! what is said of the crease table by 1 and by 15.
+//! what document 02 adds in its place: 14 of §4, in refining alone, of §6 what is
+//! said of the crease table by 1 and by 15, and of §8 the clause that holds.
 
-use std::collections::{HashMap, HashSet};
-
-use crate::cage::{next, Cage, COORDINATE_LIMIT};
+use crate::cage::{Cage, COORDINATE_LIMIT};
 use crate::creases::lowest_bad_crease;
-use crate::fan;
+use crate::reason::Reason;
 use crate::refusal::{
     refuse_if, Refusal, CREASE, EDGE, FAN, POINT, SHAPE, TWIN, UNUSED, VALENCE, VERTEX,
+};
+use crate::rules::{
+    lowest_bad_edge, lowest_bad_fan, lowest_bad_twin, lowest_bad_vertex, lowest_unused_vertex,
+    Fault,
 };
 use crate::size::{makes_triangles, refuse_above_limits};
 use crate::valence::lowest_inner_vertex_of_too_many_corners;
@@ -26,6 +28,11 @@ pub struct CageCounts {
 
 /// The cage check: refusals 1 to 8, and 15. It has no depth and no weight.
 pub fn check(cage: &Cage) -> Result<CageCounts, Refusal> {
+    Ok(check_with_reason(cage)?)
+}
+
+/// The cage check, which also tells the clause of a refusal.
+pub(crate) fn check_with_reason(cage: &Cage) -> Result<CageCounts, Reason> {
     refuse_bad_shape(cage)?;
     refuse_bad_size(cage, 0)?;
     refuse_where_broken(cage, &TABLE_RULES)?;
@@ -47,7 +54,7 @@ pub(crate) fn check_without_creases(cage: &Cage) -> Result<CageCounts, Refusal> 
 }
 
 /// Check 3 alone, for reading a file of form 2.
-pub(crate) fn check_twins(cage: &Cage) -> Result<(), Refusal> {
+pub(crate) fn check_twins(cage: &Cage) -> Result<(), Reason> {
     refuse_where_broken(cage, &[TWIN_RULE])
 }
 
@@ -95,9 +102,9 @@ fn refuse_bad_size(cage: &Cage, depth: u64) -> Result<(), Refusal> {
     refuse_above_limits(h as u64, v as u64, depth)
 }
 
-/// The number of a refusal, and the lowest place where its rule is broken. A
-/// rule may rely on the shape and on all rules before it.
-type Rule = (u32, fn(&Cage) -> Option<usize>);
+/// The number of a refusal, and how its rule is broken, if it is. A rule may rely
+/// on the shape and on all rules before it.
+type Rule = (u32, fn(&Cage) -> Option<Fault>);
 
 /// Refusal 3.
 const TWIN_RULE: Rule = (TWIN, lowest_bad_twin);
@@ -110,66 +117,39 @@ const TABLE_RULES: [Rule; 7] = [
     (VERTEX, lowest_bad_vertex),
     (UNUSED, lowest_unused_vertex),
     (EDGE, lowest_bad_edge),
-    (CREASE, lowest_bad_crease),
-    (FAN, fan::lowest_vertex_without_one_fan),
+    (CREASE, |cage| lowest_bad_crease(cage).map(without_clause)),
+    (FAN, lowest_bad_fan),
 ];
 
 /// Refusal 14.
-const VALENCE_RULE: Rule = (VALENCE, lowest_inner_vertex_of_too_many_corners);
+const VALENCE_RULE: Rule = (VALENCE, |cage| {
+    lowest_inner_vertex_of_too_many_corners(cage).map(without_clause)
+});
 
 /// Refusal 8.
-const POINT_RULE: Rule = (POINT, |cage| lowest_bad_coordinate(&cage.points));
+const POINT_RULE: Rule = (POINT, |cage| {
+    lowest_bad_coordinate(&cage.points).map(without_clause)
+});
 
 /// Refuses by the first of these rules that is broken.
-fn refuse_where_broken(cage: &Cage, rules: &[Rule]) -> Result<(), Refusal> {
-    for (number, lowest_place) in rules {
-        if let Some(place) = lowest_place(cage) {
-            return Err(Refusal::new(*number, place));
+fn refuse_where_broken(cage: &Cage, rules: &[Rule]) -> Result<(), Reason> {
+    for (number, lowest_fault) in rules {
+        if let Some((place, clause)) = lowest_fault(cage) {
+            let refusal = Refusal::new(*number, place);
+            return Err(Reason { refusal, clause });
         }
     }
     Ok(())
 }
 
-fn lowest_bad_twin(cage: &Cage) -> Option<usize> {
-    let is_bad = |h: usize, twin: usize| {
-        twin >= cage.halfedge_count() || twin == h || cage.twin_of(twin) != Some(h)
-    };
-    cage.halfedges()
-        .find(|&h| cage.twin_of(h).is_some_and(|twin| is_bad(h, twin)))
+/// A fault of a rule that has no clauses.
+fn without_clause(place: usize) -> Fault {
+    (place, None)
 }
 
 /// Place 0 where the crease table has not one number for each edge.
-fn creases_of_wrong_length(cage: &Cage) -> Option<usize> {
-    (cage.creases.len() != cage.edge_count()).then_some(0)
-}
-
-fn lowest_bad_vertex(cage: &Cage) -> Option<usize> {
-    cage.halfedges().find(|&h| {
-        let (vertex, far_end) = (cage.vert_of(h), cage.vert_of(next(h)));
-        let twin_starts_elsewhere = cage
-            .twin_of(h)
-            .is_some_and(|twin| cage.vert_of(twin) != far_end);
-        vertex >= cage.vertex_count() || vertex == far_end || twin_starts_elsewhere
-    })
-}
-
-fn lowest_unused_vertex(cage: &Cage) -> Option<usize> {
-    let used: HashSet<usize> = cage.halfedges().map(|h| cage.vert_of(h)).collect();
-    (0..cage.vertex_count()).find(|vertex| !used.contains(vertex))
-}
-
-fn lowest_bad_edge(cage: &Cage) -> Option<usize> {
-    let edge_count = cage.edge_count();
-    let mut carriers: HashMap<usize, Vec<usize>> = HashMap::new();
-    for h in cage.halfedges() {
-        carriers.entry(cage.edge_of(h)).or_default().push(h);
-    }
-    cage.halfedges().find(|&h| {
-        let (edge, twin) = (cage.edge_of(h), cage.twin_of(h));
-        let differs_from_twin = twin.is_some_and(|twin| cage.edge_of(twin) != edge);
-        let carried_elsewhere = carriers[&edge].iter().any(|&g| g != h && Some(g) != twin);
-        edge >= edge_count || differs_from_twin || carried_elsewhere
-    })
+fn creases_of_wrong_length(cage: &Cage) -> Option<Fault> {
+    (cage.creases.len() != cage.edge_count()).then_some(without_clause(0))
 }
 
 pub(crate) fn lowest_bad_coordinate(points: &[i32]) -> Option<usize> {

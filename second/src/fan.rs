@@ -33,17 +33,18 @@ impl Groups {
 }
 
 /// The lowest vertex whose corners are more than one fan, in a cage that keeps
-/// the rules 1 to 6.
-pub(crate) fn lowest_vertex_without_one_fan(cage: &Cage) -> Option<usize> {
+/// the rules 1 to 6; with its lowest corner, and the lowest one that is not joined
+/// to it.
+pub(crate) fn lowest_vertex_without_one_fan(cage: &Cage) -> Option<(usize, [usize; 2])> {
     let mut fans = linked_halfedges(cage);
-    let mut fan_at: HashMap<usize, usize> = HashMap::new();
-    cage.halfedges()
-        .filter(|&h| {
-            let fan = fans.leader(h);
-            *fan_at.entry(cage.vert_of(h)).or_insert(fan) != fan
-        })
-        .map(|h| cage.vert_of(h))
-        .min()
+    let mut lowest_at: HashMap<usize, usize> = HashMap::new();
+    let not_joined = cage.halfedges().filter_map(|h| {
+        let vertex = cage.vert_of(h);
+        let lowest = *lowest_at.entry(vertex).or_insert(h);
+        let is_joined = fans.leader(h) == fans.leader(lowest);
+        (!is_joined).then_some((vertex, [lowest, h]))
+    });
+    not_joined.min()
 }
 
 /// Each halfedge h joined with TWIN(PREV(h)) where that exists.

@@ -1,8 +1,8 @@
 //! The command line of the second program. The level lister of document 01
 //! is `second list`, the count question `second counts`, the disk program of
 //! document 02, §2 `second stl`, the entries of its §4 `second weights`, the moves
-//! of its §7 `second form-2` and `second form-1`; the other commands are for
-//! comparing and trying.
+//! of its §7 `second form-2` and `second form-1`, the tool of its §8 `second why`;
+//! the other commands are for comparing and trying.
 
 use std::io::{self, Read, Write};
 use std::process::ExitCode;
@@ -16,8 +16,10 @@ use second::refusal::Refusal;
 use second::stl::level_0_stl;
 use second::suite::{cage_named, suite, SuiteCage};
 use second::weight::{paper_part, Weight, VALENCES};
+use second::why::why_line;
 
-const USAGE: &str = "usage: second list | second counts | second stl | second weights \
+const USAGE: &str =
+    "usage: second list | second counts | second stl | second weights | second why \
      | second form-2 | second form-1 | second cage NAME [short | paper] | second suite";
 
 fn main() -> ExitCode {
@@ -67,6 +69,7 @@ impl From<Refusal> for Trouble {
 fn output(words: &[&str]) -> Result<Vec<u8>, Trouble> {
     let text = match words {
         ["list"] => list_levels(&standard_input()?),
+        ["why"] => why_line(&standard_input()?),
         ["counts"] => counts_of(&standard_input()?)?,
         ["weights"] => VALENCES.filter_map(weight_line).collect(),
         ["suite"] => suite().iter().map(suite_line).collect(),

@@ -7,6 +7,7 @@ use second::questions::files::{form_1_file, form_2_file};
 use second::stl::level_0_stl;
 use second::suite::cage_named;
 use second::weight::{paper_part, Weight};
+use second::why::why_line;
 
 const WEIGHTS: [Weight; 2] = [Weight::Short, Weight::Paper];
 
@@ -40,12 +41,13 @@ fn printed(words: &[&str], input: &[u8]) -> String {
 
 #[test]
 fn unknown_usage_is_told() {
-    let unknown: [&[&str]; 12] = [
+    let unknown: [&[&str]; 13] = [
         &[],
         &["lists"],
         &["list", "more"],
         &["counts", "12"],
         &["stl", "more"],
+        &["why", "more"],
         &["weights", "2"],
         &["cage"],
         &["cage", "triangle", "long"],
@@ -163,6 +165,28 @@ fn what_is_no_cage_is_not_written_as_stl() {
     for (file, line) in refused {
         assert_eq!(printed(&["stl"], file), line);
         assert_eq!(printed(&["list"], file), line);
+    }
+}
+
+/// One line for the files of accepted cages and of others, in either form.
+#[test]
+fn a_file_is_explained() {
+    let accepted = "accepted: halfedges 6, edges 3, triangles 2, vertices 3, border edges 0\n";
+    let pillow = bytes(&["cage", "pillow"], &[]);
+    assert_eq!(printed(&["why"], &pillow), accepted);
+    let form_2 = bytes(&["cage", "pillow", "paper"], &[]);
+    assert_eq!(printed(&["why"], &form_2), accepted);
+    let bow_tie = cage_named("bow-tie").expect("of this name");
+    let line = "refused 7 0: vertex 0 has corners 0 and 3, which are not joined\n";
+    for file in [form_1_file(&bow_tie), form_2_file(&bow_tie, Weight::Short)] {
+        assert_eq!(printed(&["why"], &file), line);
+    }
+    for mut file in [pillow, form_2] {
+        assert_eq!(printed(&["why"], &file[..2]), "refused 10 0\n");
+        file[12..14].fill(0);
+        let line = "refused 3 0: halfedge 0 has twin 0, which is itself\n";
+        assert_eq!(printed(&["why"], &file), line);
+        assert_eq!(why_line(&file), line);
     }
 }
 

@@ -13,4 +13,5 @@ pub use read::{read_cage, read_cage_file, FileCage, FileCounts};
 pub use write::{write_cage_file, write_form_2_file};
 
 pub(crate) use fields::{Field, Tag, HEAD_LENGTH};
+pub(crate) use read::read_cage_with_reason;
 pub(crate) use write::fields_of;

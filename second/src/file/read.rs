@@ -6,6 +6,7 @@ use super::fields::{weight_byte, Counts, NO_TWIN};
 use super::{Form, Tag, HEAD_LENGTH};
 use crate::cage::{Cage, MARKER};
 use crate::check::check_twins;
+use crate::reason::Reason;
 use crate::refusal::{refuse_if, Refusal, EXTRA, FIELD, SHAPE, SHORT};
 use crate::size::{makes_triangles, refuse_above_limits};
 use crate::tables::LentTables;
@@ -62,11 +63,16 @@ pub fn read_cage_file(file: &[u8], lent: &mut LentTables) -> Result<FileCounts, 
 /// Reads a cage file where room is no question: refusals 1, 2 and 10 to 12, for
 /// form 2 with 3.
 pub fn read_cage(file: &[u8]) -> Result<FileCage, Refusal> {
+    Ok(read_cage_with_reason(file)?)
+}
+
+/// Reads a cage file as [`read_cage`] does, and also tells the clause of 3.
+pub(crate) fn read_cage_with_reason(file: &[u8]) -> Result<FileCage, Reason> {
     read_cage_of(&[Form::One, Form::Two], file)
 }
 
 /// Reads a cage file of one of these forms; any other form is refused by 11.
-pub(super) fn read_cage_of(forms: &[Form], file: &[u8]) -> Result<FileCage, Refusal> {
+pub(super) fn read_cage_of(forms: &[Form], file: &[u8]) -> Result<FileCage, Reason> {
     let mut fields = Fields::of(file);
     let form = fields.first(forms)?;
     let tables = Cage {
@@ -158,7 +164,7 @@ impl<'a> Fields<'a> {
 
     /// Takes the creases, one for each edge of the twins just read. Check 3 comes
     /// before their head is looked at.
-    fn creases(&mut self, tables: &Cage) -> Result<Vec<u8>, Refusal> {
+    fn creases(&mut self, tables: &Cage) -> Result<Vec<u8>, Reason> {
         check_twins(tables)?;
         self.counts.edges = tables.edge_count();
         Ok(self.payload(Tag::Creases)?.to_vec())

@@ -2,6 +2,7 @@
 //! document 02 adds to it: cages that break a rule at a known place.
 
 mod cells;
+mod clauses;
 mod crease_order;
 mod creases;
 mod joined;
@@ -32,6 +33,7 @@ pub(super) fn damaged_cages() -> Vec<SuiteCage> {
         creases::two_wrong_numbers(),
         crease_order::among_other_faults(),
         crease_order::behind_many_corners(),
+        clauses::broken_clauses(),
     ];
     let damaged = damaged.into_iter().flatten();
     damaged
