@@ -1,4 +1,4 @@
--- Every answer fits its cells: of the cage check (`check-fits`), building (`build-fits`), the count question (`counts-fit`), refining
+-- Every answer fits its cells: of the cage check (`check-fits`), saying why (`why-fits`), building (`build-fits`), the count question (`counts-fit`), refining
 -- (`refine-fits`), the corner question (`corners-fit`), reading (`read-fits`), writing (`write-fits`), the moves
 -- (`move-fits`) and writing STL (`stl-fits`). Assumes nothing.
 use Prim.Native.Nat.{ℕ, suc, _≤_, _<_}
@@ -33,6 +33,7 @@ use Rattle.points.specs.declared.weights.Weight.{Weight}
 use Rattle.points.specs.declared.weights.Weight.the-variants.{Short, Paper}
 use Rattle.points.specs.Weights.{weightNumber}
 use Rattle.points.specs.Operations.{vertices, creasedChecks, refineChecks, checkCreased, refineVerdict, refineCage}
+use Rattle.why.specs.Why.{whyCage}
 use Rattle.triangles.specs.Plain.{twinTable}
 use Rattle.triangles.proofs.Opposite.{twins-long}
 use Rattle.building.specs.Building.{buildChecks, buildVerdict, buildCage}
@@ -85,6 +86,11 @@ check-fits c creases points =
             zeros-fit,
       ),
     )
+
+-- the check's own verdict
+pub why-fits : (c : Tables) (creases : List ℕ) (points : List ℤ) → Fitting (cells (record { verdict = whyCage c creases points .verdict; values = [] }))
+unfolding whyCage checkCreased said
+why-fits c creases points = let s = creased-small c creases points 0 in (s .0, (s .1, tt))
 
 -- building: the first of its checks before the room
 build-checks-small : (vert : List ℕ) (points : List ℤ) → Small (first (buildChecks vert points))

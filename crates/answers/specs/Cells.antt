@@ -5,6 +5,7 @@ use mathlib.Core.List.{List, [], _∷_, _++_}
 use lib.Dec.{ltb}
 use Rattle.halfedges.specs.declared.table.Levels.{Levels}
 use Rattle.halfedges.specs.Refusals.{Said}
+use Rattle.clauses.specs.declared.Clause.{Clause}
 
 -- number, place and what is returned besides
 abbrev pub cells : Said (List ℕ) → List ℕ
@@ -29,3 +30,9 @@ levelNumbers l = l .halfedges ++ (l .edges ++ (l .vertices ++ (l .«halfedge_roo
 -- number, place and the counts
 abbrev pub levelCells : Said Levels → List ℕ
 levelCells s = cells (record { verdict = s .verdict; values = levelNumbers (s .values) })
+
+-- number, place, and the clause with its three numbers
+abbrev pub clauseCells : Said Clause → List ℕ
+clauseCells s =
+    let k = s .values in
+    cells (record { verdict = s .verdict; values = k .number ∷ k .first ∷ k .second ∷ k .third ∷ [] })

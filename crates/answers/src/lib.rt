@@ -9,12 +9,14 @@ ghost use Rattle.halfedges.specs.Corners.{cornered};
 ghost use Rattle.tables.specs.Check.{checked as Check·checked};
 ghost use Rattle.reading.specs.Reading.{reported};
 ghost use Rattle.writing.specs.Writing.{wrote};
-ghost use Rattle.answers.specs.Cells.{cells, lengthCells, numberCell, stlCells, levelCells};
+ghost use Rattle.why.specs.Why.{explains};
+ghost use Rattle.answers.specs.Cells.{cells, lengthCells, numberCell, stlCells, levelCells, clauseCells};
 ghost use Rattle.answers.specs.Internal.Fitting.{Fitting, Sevens};
 use halfedges::corners::Corners;
 use halfedges::table::Counted;
 use reading::Reading;
 use tables::check::Checked;
+use why::Why;
 use writing::Writing;
 
 // Number, place, H, E, F, V and B.
@@ -76,6 +78,25 @@ pub fn of_writing(written: Writing) -> [u32; 3]
     let number = told.number() as u32;
     let place = told.place() as u32;
     [number, place, written.length as u32]
+}
+
+// Number, place, and the clause with its three numbers.
+pub fn of_why(why: Why) -> [u32; 6]
+    requires { ⌜ Fitting (cells (record { verdict = told (why .answer); values = [] })) ⌝ }
+    ensures { λ r. ⌜ r ≡ clauseCells (explains why) ⌝ }
+{
+    let told = why.answer;
+    let number = told.number() as u32;
+    let place = told.place() as u32;
+    let clause = why.clause;
+    [
+        number,
+        place,
+        clause.number,
+        clause.first,
+        clause.second,
+        clause.third,
+    ]
 }
 
 // A number as a cell: one that does not fit is told as the largest that does.

@@ -7,13 +7,14 @@ ghost use Rattle.halfedges.specs.Corners.{cornerQuestion};
 ghost use Rattle.tables.specs.Tables.{tables};
 ghost use Rattle.points.specs.Weights.{weightOf};
 ghost use Rattle.points.specs.Operations.{checkCreased, refineCage};
+ghost use Rattle.why.specs.Why.{whyCage};
 ghost use Rattle.building.specs.Building.{buildCage};
 ghost use Rattle.reading.specs.Reading.{readFile};
 ghost use Rattle.cagefile.specs.declared.fields.Form.the-variants.{One, Two};
 ghost use Rattle.writing.specs.Writing.{plain, writeFile};
 ghost use Rattle.moves.specs.Moves.{move};
 ghost use Rattle.stl.specs.Writing.{writeStl};
-ghost use Rattle.answers.specs.Cells.{cells as Cells·cells, lengthCells, numberCell, stlCells, levelCells};
+ghost use Rattle.answers.specs.Cells.{cells as Cells·cells, lengthCells, numberCell, stlCells, levelCells, clauseCells};
 use answers;
 use building;
 use halfedges::corners;
@@ -24,6 +25,7 @@ use reading;
 use refining;
 use stl;
 use tables::rules;
+use why;
 use writing;
 
 // The cage check 1 to 8 and 15.
@@ -43,6 +45,25 @@ pub extern "C" fn ryebadger_check(
 {
     let checked = cage::check_creased(twin, vert, edge, points, creases);
     *answer = answers::of_check(checked);
+}
+
+// Why a cage is sent back: number and place of the check, and the clause of the rule that is broken.
+#[no_mangle]
+pub extern "C" fn ryebadger_why(
+    twin: &[u32],
+    vert: &[u32],
+    edge: &[u32],
+    points: &[i32],
+    creases: &[u8],
+    answer: &mut [u32; 6],
+)
+    ensures { λ _.
+        ⌜ now (answer .exit)
+        ≡ clauseCells (whyCage (tables (now (twin .entry)) (now (vert .entry)) (now (edge .entry))) (now (creases .entry))
+        (now (points .entry))) ⌝ }
+{
+    let why = why::explain(twin, vert, edge, points, creases);
+    *answer = answers::of_why(why);
 }
 
 // How many edges a twin table has, which is how long its crease table has to be.
