@@ -3,8 +3,8 @@
 --     put-then, put-words     a word and the rest of its line, words and the rest of their line
 --     put-within              what takes less room
 --     put-next                one line more after k lines
---     word-next, word-put     a word byte by byte, and what stands after it
---     number-put              the digits of a number as a word
+--     word-next, bytes-put    bytes one by one; `byte-put` one of them
+--     digits-put              the digits of a number
 use Prim.Native.Nat.{ℕ, _+_, _*_, _^_, _≤_, _<_, zero-le}
 use mathlib.Core.Path.{_≡_, refl, sym, ap, _∙_}
 use mathlib.Core.List.{List, [], _∷_, _++_, append-assoc}
@@ -59,20 +59,15 @@ module _ (d l w : List ℕ) (at : ℕ) where
   whole : paste d at w (length w) ≡ splice d at w
   whole = rw (take-length w, append-assoc (take at d) w, ← drop-drop (length w) at d)
 
-  pub word-put : (a : ℕ) → at + length w + 1 ≤ length d → l ≡ paste d at w (length w)
-      → Put d at (length w + 1) (w ++ (a ∷ [])) (set l (at + length w) a) (at + length w + 1)
-  word-put a h e =
-      let long : length l ≡ length d = ap length e ∙ length-paste d at w (length w) (omega arith) (le-refl _) in
-      record {
-        bytes = splice-one l (at + length w) a (omega arith) ∙ splice-more d l w (a ∷ []) at (at + length w) (e ∙ whole) refl (omega arith);
-        ends = simp length-append (omega arith);
-        short = simp length-append (omega arith);
-      }
+  pub bytes-put : at + length w ≤ length d → l ≡ paste d at w (length w) → Put d at (length w) w l (at + length w)
+  bytes-put h e = record { bytes = e ∙ whole; ends = refl; short = le-refl _ }
+
+pub byte-put : (d : List ℕ) (at a : ℕ) → at < length d → Put d at 1 (a ∷ []) (set d at a) (at + 1)
+byte-put d at a h = record { bytes = splice-one d at a h; ends = refl; short = le-refl _ }
 
 module _ (n k : ℕ) (small : n < 2 ^ 64) (f : Fewest 10 1 n k) where
-  pub number-put : (a b word : List ℕ) (at next z : ℕ) → word ≡ digits 10 k n → k ≡ length word
-      → Put a at (length word + 1) (word ++ (z ∷ [])) b next → Put a at 21 (decimal n ++ (z ∷ [])) b next
+  pub digits-put : (a b word : List ℕ) (at next : ℕ) → word ≡ digits 10 k n → k ≡ length word → Put a at (length word) word b next → Put a at 20 (decimal n) b next
   unfolding decimal
-  number-put a b word at next z e m p =
+  digits-put a b word at next e m p =
       let q : word ≡ decimal n = e ∙ ap (λ i. digits 10 i n) (fewest-is n small k f) in
       rw (← q) (put-within (omega (arith, few-digits n small k f)) p)

@@ -1,7 +1,7 @@
 // Lines of words and numbers, written one after another into a text.
 ghost use mathlib.Core.Path.{_≡_};
 ghost use mathlib.Core.List.{[], _∷_, _++_};
-ghost use Prim.Native.Nat.{_+_, _≤_};
+ghost use Prim.Native.Nat.{_+_, _≤_, _<_};
 ghost use lib.ListN.{length};
 ghost use Rattle.halfedges.specs.Cage.{most-depth};
 ghost use Rattle.text.specs.Lines.{decimal, ended, levelWords, roomLine};
@@ -15,18 +15,45 @@ pub const SPACE: u8 = 32;
 // What stands after the last word of a line.
 pub const NEWLINE: u8 = 10;
 
+// Bytes as they stand.
+pub fn put_bytes(out: &mut [u8], at: usize, bytes: &[u8]) -> usize
+    requires { ⌜ at + length (now bytes) ≤ length (now out) ⌝ }
+    ensures { λ r. ⌜ Put (now (out .entry)) at (length (now (bytes .entry))) (now (bytes .entry)) (now (out .exit)) r ⌝ }
+{
+    let mut i = 0;
+    while i < bytes.len() {
+        out[at + i] = bytes[i];
+        i += 1;
+    }
+    at + bytes.len()
+}
+
+// One byte.
+pub fn put_byte(out: &mut [u8], at: usize, byte: u8) -> usize
+    requires { ⌜ at < length (now out) ⌝ }
+    ensures { λ r. ⌜ Put (now (out .entry)) at 1 (byte ∷ []) (now (out .exit)) r ⌝ }
+{
+    out[at] = byte;
+    at + 1
+}
+
+// A number's decimal digits.
+pub fn put_digits(out: &mut [u8], at: usize, number: usize) -> usize
+    requires { ⌜ at + 20 ≤ length (now out) ⌝ }
+    ensures { λ r. ⌜ Put (now (out .entry)) at 20 (decimal number) (now (out .exit)) r ⌝ }
+{
+    let mut digits = [0u8; 20];
+    let length = io::decimal(number as u64, &mut digits);
+    put_bytes(&mut *out, at, &digits[..length])
+}
+
 // A word, and what stands after it.
 pub fn put_word(out: &mut [u8], at: usize, word: &[u8], after: u8) -> usize
     requires { ⌜ at + length (now word) + 1 ≤ length (now out) ⌝ }
     ensures { λ r. ⌜ Put (now (out .entry)) at (length (now (word .entry)) + 1) (now (word .entry) ++ (after ∷ [])) (now (out .exit)) r ⌝ }
 {
-    let mut i = 0;
-    while i < word.len() {
-        out[at + i] = word[i];
-        i += 1;
-    }
-    out[at + word.len()] = after;
-    at + word.len() + 1
+    let next = put_bytes(&mut *out, at, word);
+    put_byte(&mut *out, next, after)
 }
 
 // A number's decimal digits, and what stands after them.
@@ -34,9 +61,8 @@ pub fn put_number(out: &mut [u8], at: usize, number: usize, after: u8) -> usize
     requires { ⌜ at + 21 ≤ length (now out) ⌝ }
     ensures { λ r. ⌜ Put (now (out .entry)) at 21 (decimal number ++ (after ∷ [])) (now (out .exit)) r ⌝ }
 {
-    let mut digits = [0u8; 20];
-    let length = io::decimal(number as u64, &mut digits);
-    put_word(&mut *out, at, &digits[..length], after)
+    let next = put_digits(&mut *out, at, number);
+    put_byte(&mut *out, next, after)
 }
 
 // The last two numbers of some words, and what stands after them.

@@ -1,58 +1,82 @@
--- The clause that speaks of the twin by itself; else what comes before the comma, and what comes after it.
+-- Each clause has its text.
 use borrow.Author.Needs.{needs}
+use mathlib.Core.Path.{_≡_, ap}
 use native.Mathlib.Omega.{arith}
+use lib.ListN.{length}
 use borrow.Author.Tests.{eq-eqb, ne-eqb}
-use Rattle.sentences.specs.Sentences.{vertexSentence}
-use Rattle.sentences.proofs.Parts.{put-part}
+use Rattle.text.proofs.Texts.{put-within}
+use Rattle.sentences.specs.Sentences.{saying, vertexLine}
 use Rattle.sentences.proofs.put_vertex.Statement.{statement}
 use Rattle.sentences.proofs.put_vertex.Tie as tie
 
-put-other-vertex-requires : tie.Need-put-other-vertex-requires
-put-other-vertex-requires c κs = search needs
+shown-requires : tie.Need-shown-requires
+shown-requires c κs = search needs
+
+slice-aggregate-put-saying : tie.Need-slice-aggregate-put-saying
+slice-aggregate-put-saying c = search needs
+
+put-saying-requires : tie.Need-put-saying-requires
+put-saying-requires c κs = (omega arith, ap length (c .before .before .before .shown .ensures))
 
 same-length : tie.Need-same-length
 same-length c = search needs
 
 returns : tie.Need-returns
-unfolding vertexSentence
+unfolding vertexLine saying
 returns c =
     let put = c .before .before in
-    let then = put .before .before in
-    rw (eq-eqb _ 3 (then .if1 .taken)) (put .put-other-vertex .ensures)
+    let branch = put .before .before .before in
+    rw (eq-eqb _ 1 (branch .if1 .taken))
+    (put-within (omega arith) (rw (branch .before .shown .ensures) at (put .put-saying .ensures)))
 
-slice-aggregate-put-phrases : tie.Need-slice-aggregate-put-phrases
-slice-aggregate-put-phrases c = search needs
+slice-aggregate-put-saying-2 : tie.Need-slice-aggregate-put-saying-2
+slice-aggregate-put-saying-2 c = search needs
 
-slice-aggregate-put-phrases-2 : tie.Need-slice-aggregate-put-phrases-2
-slice-aggregate-put-phrases-2 c = search needs
-
-put-phrases-requires : tie.Need-put-phrases-requires
-put-phrases-requires c κs = search needs
-
-put-vertex-end-requires : tie.Need-put-vertex-end-requires
-put-vertex-end-requires c κs = search needs
+put-saying-requires-2 : tie.Need-put-saying-requires-2
+put-saying-requires-2 c κs = (omega arith, ap length (c .before .before .before .before .shown .ensures))
 
 same-length-2 : tie.Need-same-length-2
 same-length-2 c = search needs
 
 returns-2 : tie.Need-returns-2
-unfolding vertexSentence
+unfolding vertexLine saying
 returns-2 c =
-    let end = c .before .before in
-    let opening = end .before .before .before .before in
-    let else = opening .before .before .before .before in
-    rw (ne-eqb _ 3 (else .if1 .left)) (put-part 150 (omega arith) (omega arith) (opening .put-phrases .ensures) (end .put-vertex-end .ensures))
+    let put = c .before .before in
+    let branch = put .before .before .before in
+    rw (ne-eqb _ 1 (branch .before .if1 .left), eq-eqb _ 2 (branch .if2 .taken))
+    (put-within (omega arith) (rw (branch .before .before .shown .ensures) at (put .put-saying2 .ensures)))
+
+slice-aggregate-put-saying-3 : tie.Need-slice-aggregate-put-saying-3
+slice-aggregate-put-saying-3 c = search needs
+
+put-saying-requires-3 : tie.Need-put-saying-requires-3
+put-saying-requires-3 c κs = (omega arith, ap length (c .before .before .before .before .shown .ensures))
+
+same-length-3 : tie.Need-same-length-3
+same-length-3 c = search needs
+
+returns-3 : tie.Need-returns-3
+unfolding vertexLine saying
+returns-3 c =
+    let put = c .before .before in
+    let branch = put .before .before .before in
+    rw (ne-eqb _ 1 (branch .before .if1 .left), ne-eqb _ 2 (branch .if2 .left))
+    (put-within (omega arith) (rw (branch .before .before .shown .ensures) at (put .put-saying3 .ensures)))
 
 pub put-vertex-spec : {M : Type 1} → statement M
 put-vertex-spec =
     tie.close
     (tie.spec
-    put-other-vertex-requires
+    shown-requires
+    slice-aggregate-put-saying
+    put-saying-requires
     same-length
     returns
-    slice-aggregate-put-phrases
-    slice-aggregate-put-phrases-2
-    put-phrases-requires
-    put-vertex-end-requires
+    slice-aggregate-put-saying-2
+    put-saying-requires-2
     same-length-2
-    returns-2)
+    returns-2
+    slice-aggregate-put-saying-3
+    put-saying-requires-3
+    same-length-3
+    returns-3)

@@ -1,39 +1,21 @@
--- A number is put as the word that its digits make.
-use native.Mathlib.Omega.{arith}
-use Rattle.text.proofs.Decimal.{few-digits}
-use Rattle.text.proofs.Texts.{number-put}
+-- A number is its digits, and what stands after them.
 use borrow.Author.Needs.{needs}
+use native.Mathlib.Omega.{arith}
+use Rattle.text.proofs.Texts.{put-more}
 use Rattle.text.proofs.lines.put_number.Statement.{statement}
 use Rattle.text.proofs.lines.put_number.Tie as tie
 
-decimal-requires : tie.Need-decimal-requires
-decimal-requires c κs = search needs
+put-digits-requires : tie.Need-put-digits-requires
+put-digits-requires c κs = search needs
 
-array-share-prefix-digits : tie.Need-array-share-prefix-digits
-array-share-prefix-digits c = search needs
-
-slice-aggregate-put-word : tie.Need-slice-aggregate-put-word
-slice-aggregate-put-word c = search needs
-
-put-word-requires : tie.Need-put-word-requires
-put-word-requires c κs = let d = c .before .before in omega (arith, few-digits (d .before .before .before .args .number) (omega arith) (d .decimal .result) (d .decimal .ensures .1 .0))
+put-byte-requires : tie.Need-put-byte-requires
+put-byte-requires c κs = search needs
 
 same-length : tie.Need-same-length
 same-length c = search needs
 
 returns : tie.Need-returns
-returns c =
-    let p = c .before .before in
-    let d = p .before .before .before in
-    number-put (d .before .before .before .args .number) (d .decimal .result) (omega arith) (d .decimal .ensures .1 .0) _ _ _ _ _ _ (d .decimal .ensures .1 .1) (d .decimal .ensures .0 .1) (p .put-word .ensures)
+returns c = let byte = c .before .before in put-more (omega arith) (byte .before .before .before .before .put-digits .ensures) (byte .put-byte .ensures)
 
 pub put-number-spec : {M : Type 1} → statement M
-put-number-spec =
-    tie.close
-    (tie.spec
-    decimal-requires
-    array-share-prefix-digits
-    slice-aggregate-put-word
-    put-word-requires
-    same-length
-    returns)
+put-number-spec = tie.close (tie.spec put-digits-requires put-byte-requires same-length returns)
