@@ -2,7 +2,7 @@
 ghost use mathlib.Core.Path.{_≡_};
 ghost use Rattle.halfedges.specs.Refusals.{told};
 ghost use Rattle.tables.specs.Tables.{tables};
-ghost use Rattle.clauses.specs.Clauses.{clauseAt};
+ghost use Rattle.clauses.specs.Clauses.{noClause, clauseAt};
 ghost use Rattle.clauses.specs.Internal.Reached.{Reached};
 use halfedges::answer::Answer;
 
@@ -15,6 +15,20 @@ pub struct Clause {
     pub first: u32,
     pub second: u32,
     pub third: u32,
+}
+
+impl Clause {
+    // No clause.
+    pub fn none() -> Clause
+        ensures { λ r. ⌜ r ≡ noClause ⌝ }
+    {
+        Clause {
+            number: 0,
+            first: 0,
+            second: 0,
+            third: 0,
+        }
+    }
 }
 
 // The clause of what a check of the tables answered.
@@ -50,10 +64,5 @@ pub fn clause_at(
     if number == 7 {
         return fans::fan_clause(twin, vert, place);
     }
-    Clause {
-        number: 0,
-        first: 0,
-        second: 0,
-        third: 0,
-    }
+    Clause::none()
 }

@@ -1,5 +1,5 @@
 -- The file's checks once the first payload has passed: a table's field that does not pass is the answer (`tables-stop`), and after them
--- comes what the form has (`plain-left`, `creased-left`). Where they pass the tables are whole (`tables-whole`). Assumes nothing.
+-- comes what the form has (`left-one`, `left-two`; `plain-left`, `creased-left`). Where they pass the tables are whole (`tables-whole`). Assumes nothing.
 use Prim.Native.Nat.{ℕ, _+_, _*_, _≤_}
 use mathlib.Core.Path.{_≡_}
 use mathlib.Core.Logic.{_≢_}
@@ -27,10 +27,10 @@ tables-whole f H e =
 
 -- what is left of the checks of a file of a form
 module _ (f : List ℕ) where
-  abbrev left : Form → List Verdict
+  abbrev pub left : Form → List Verdict
   left form = frontToBack f (past 0 opening) (laterAsked form f) (heads form (HIn f) (edgesFor form (twinsIn f)) (VIn f))
 
-  abbrev tables : List Verdict
+  abbrev pub tables : List Verdict
   tables = frontChecks f (past 0 opening) (tableHeads (HIn f))
 
   abbrev pub plainLeft : List Verdict
@@ -39,11 +39,11 @@ module _ (f : List ℕ) where
   abbrev pub creasedLeft : List Verdict
   creasedLeft = twinsAsked f 0 ++ frontToBack f (18 + 6 * HIn f) (nothing ∷ nothing ∷ weightAsked f ∷ []) (laterHeads Two (E (twinsIn f)) (VIn f))
 
-  left-one : left One ≡ tables ++ plainLeft
+  pub left-one : left One ≡ tables ++ plainLeft
   unfolding frontToBack laterHeads
   left-one = tables-alone f (HIn f) (laterHeads One 0 (VIn f))
 
-  left-two : left Two ≡ tables ++ creasedLeft
+  pub left-two : left Two ≡ tables ++ creasedLeft
   unfolding twinsAsked
   left-two = tables-asked f (HIn f) (laterHeads Two (E (twinsIn f)) (VIn f)) (twinsAsked f) (nothing ∷ nothing ∷ weightAsked f ∷ [])
 

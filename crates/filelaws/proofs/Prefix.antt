@@ -3,6 +3,7 @@
 --     longer-alike        the checks of the first n bytes of a file, n above 46,111, answer as those of all of it
 --     too-long            a file of more than 46,111 bytes is refused
 --     longer-read-alike   so reading the first n bytes answers and leaves what reading all of it does
+--     longer-twins-alike  and the twins are the same, where H and V are within the limits
 use Prim.Native.Nat.{ℕ, _+_, _*_, _≤_, _<_}
 use mathlib.Core.Path.{_≡_, refl, sym, ap, ap₂, _∙_}
 use mathlib.Core.Logic.{_≢_}
@@ -180,3 +181,6 @@ module _ (f : List ℕ) (n : ℕ) (enough : longest Two < n) where
 
   pub longer-read-alike : (lent : Tables) (lentPoints : List ℤ) (lentCreases : List ℕ) → readFile (take n f) lent lentPoints lentCreases ≡ readFile f lent lentPoints lentCreases
   longer-read-alike lent lentPoints lentCreases = alike (λ g. readFile g lent lentPoints lentCreases) (λ g l a s. read-alike f g l a s lent lentPoints lentCreases)
+
+  pub longer-twins-alike : HIn f ≤ most-halfedges → VIn f ≤ most-vertices → twinsIn (take n f) ≡ twinsIn f
+  longer-twins-alike few less = alike twinsIn (λ g l a s. twins-alike f g l a s few less)

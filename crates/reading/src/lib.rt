@@ -63,7 +63,7 @@ impl Reading {
 }
 
 // The payloads of the three tables.
-fn copy_tables(file: &[u8], twin: &mut [u32], vert: &mut [u32], edge: &mut [u32])
+pub fn copy_tables(file: &[u8], twin: &mut [u32], vert: &mut [u32], edge: &mut [u32])
     requires { ⌜ (18 + 6 * HIn (now file) ≤ length (now file)) × (HIn (now file) ≤ length (now twin))
         × (HIn (now file) ≤ length (now vert)) × (HIn (now file) ≤ length (now edge)) ⌝ }
     ensures { λ _.

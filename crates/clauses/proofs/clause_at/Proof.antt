@@ -86,14 +86,18 @@ plain n a b d e f = by (decLt n 3)
     by (yes l) = inl l
     by (no l) = inr (omega arith)
 
+none-requires : tie.Need-none-requires
+none-requires c κs = search needs
+
 returns-6 : tie.Need-returns-6
 returns-6 c =
-    let e4 = c .before in
+    let e5 = c .before in
+    let e4 = e5 .before in
     let e3 = e4 .before in
     let e2 = e3 .before in
     let e1 = e2 .before in
     let p = e1 .before in
-    sym (no-clause _ _ _ (rw (number p) (plain _ (e1 .if1 .left) (e2 .if2 .left) (e3 .if3 .left) (e4 .if4 .left) (c .if5 .left))))
+    c .none .ensures ∙ sym (no-clause _ _ _ (rw (number p) (plain _ (e1 .if1 .left) (e2 .if2 .left) (e3 .if3 .left) (e4 .if4 .left) (e5 .if5 .left))))
 
 pub clause-at-spec : {M : Type 1} → statement M
 clause-at-spec =
@@ -111,4 +115,5 @@ clause-at-spec =
     returns-4
     fan-clause-requires
     returns-5
+    none-requires
     returns-6)
