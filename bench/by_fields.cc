@@ -1,21 +1,14 @@
 // Cage files by hand: every field is looked at where it stands, and a move copies the fields that both forms have.
 #include <cstring>
 
+#include "checked.h"
 #include "files.h"
-#include "joined.h"
-#include "levels.h"
 
 namespace {
 
 constexpr size_t kHead = 3;
 constexpr uint16_t kNoTwinInFile = UINT16_MAX;
 enum Tag : uint8_t { kFirst = 0x10, kTwins = 0x20, kVerts, kEdges, kCreases, kPoints = 0x30, kWeight, kEnd = 0x7f };
-
-struct Verdict {
-  uint32_t number = RYEBADGER_DONE, place = 0;
-
-  explicit operator bool() const { return number != RYEBADGER_DONE; }
-};
 
 Written not_written(Verdict verdict) { return {verdict.number, verdict.place}; }
 
@@ -28,22 +21,6 @@ uint16_t number_at(const uint8_t* at) {
 void put_number(uint8_t* at, size_t number) {
   const uint16_t bits = uint16_t(number);
   std::memcpy(at, &bits, sizeof bits);
-}
-
-// The lowest halfedge whose twin is none, or H.
-uint32_t first_bad_twin(const uint32_t* twin, uint32_t halfedges) {
-  uint32_t h = 0;
-  for (; h < halfedges; ++h) {
-    const uint32_t t = twin[h];
-    if (t != kNoTwin && (t >= halfedges || t == h || twin[t] != h)) break;
-  }
-  return h;
-}
-
-uint32_t count_edges(const uint32_t* twin, uint32_t halfedges) {
-  uint32_t edges = 0;
-  for (uint32_t h = 0; h < halfedges; ++h) edges += twin[h] == kNoTwin || twin[h] < h;
-  return edges;
 }
 
 // Where a file's payloads stand, and what is told of them. Only the twins are taken out.
@@ -120,68 +97,8 @@ void put_tables(const Parsed& of, const Room& lent) {
   if (of.form == RYEBADGER_FORM_2) std::memcpy(lent.creases, of.creases, of.counts.edges);
 }
 
-// 4: the lowest such halfedge, or H; and for 5 and 7 the corners at each vertex.
-uint32_t first_bad_corner(const Level& cage, Corners& corners) {
-  const auto [halfedges, edges, vertices] = cage.counts;
-  std::fill_n(corners.count.begin(), vertices, 0);
-  uint32_t h = 0;
-  for (; h < halfedges; ++h) {
-    const uint32_t v = cage.vert[h], end = cage.vert[next(h)], t = cage.twin[h];
-    if (v >= vertices || v == end || (t != kNoTwin && cage.vert[t] != end)) break;
-    ++corners.count[v];
-    corners.one[v] = h;
-  }
-  return h;
-}
-
-// 6: the lowest such halfedge, or H; and for 15 the first halfedge of each edge. A further one that is not its twin is the
-// first one's fault.
-uint32_t first_bad_edge(const Level& cage, uint32_t* first) {
-  const auto [halfedges, edges, vertices] = cage.counts;
-  std::fill_n(first, edges, kNoTwin);
-  uint32_t bad = halfedges;
-  for (uint32_t h = 0; h < halfedges; ++h) {
-    const uint32_t e = cage.edge[h], t = cage.twin[h];
-    if (e >= edges || (t != kNoTwin && cage.edge[t] != e)) bad = std::min(bad, h);
-    if (e >= edges) continue;
-    if (first[e] == kNoTwin)
-      first[e] = h;
-    else if (first[e] != t)
-      bad = std::min(bad, first[e]);
-  }
-  return bad;
-}
-
-// 15: the lowest such edge, or E.
-uint32_t first_bad_crease(const Level& cage, const uint32_t* first) {
-  uint32_t e = 0;
-  for (; e < cage.counts.edges; ++e)
-    if (cage.creases[e] > (cage.twin[first[e]] == kNoTwin ? 0 : RYEBADGER_MOST_CREASE)) break;
-  return e;
-}
-
-// The cage check from 4 on.
-Verdict check_from_4(const Level& cage) {
-  const auto [halfedges, edges, vertices] = cage.counts;
-  Corners corners;
-  uint32_t first[kMost];
-  const uint32_t corner = first_bad_corner(cage, corners);
-  if (corner < halfedges) return {RYEBADGER_VERTEX, corner};
-  const uint32_t unused = first_unused(corners, vertices);
-  if (unused < vertices) return {RYEBADGER_UNUSED, unused};
-  const uint32_t edge = first_bad_edge(cage, first);
-  if (edge < halfedges) return {RYEBADGER_EDGE, edge};
-  const uint32_t crease = first_bad_crease(cage, first);
-  if (crease < edges) return {RYEBADGER_CREASE, crease};
-  const uint32_t split = first_without_one_fan(cage.twin, corners, vertices);
-  if (split < vertices) return {RYEBADGER_FAN, split};
-  const uint32_t far = first_out_of_range(cage.points, 3 * vertices);
-  if (far < 3 * vertices) return {RYEBADGER_POINT, far};
-  return {};
-}
-
 // The check of the cage that a file holds, once its twins have passed. Form 1 has creases of 0.
-Verdict check_from_4(const Parsed& of) {
+Verdict check_held(const Parsed& of) {
   uint32_t vert[kMost], edge[kMost];
   int32_t points[3 * RYEBADGER_MOST_VERTICES];
   uint8_t creases[kMost] = {};
@@ -248,17 +165,8 @@ FileRead read_by_hand(const Bytes& file, Tables& lent) {
 }
 
 Written write_form_2_by_hand(const Cage& cage, Weight weight, Bytes& lent) {
-  const size_t halfedges = cage.twin.size(), vertices = cage.points.size() / 3;
-  if (halfedges == 0 || halfedges % 3 != 0 || cage.vert.size() != halfedges || cage.edge.size() != halfedges ||
-      cage.points.size() % 3 != 0)
-    return {RYEBADGER_SHAPE, 0};
-  if (halfedges > RYEBADGER_MOST_HALFEDGES || vertices > RYEBADGER_MOST_VERTICES) return {RYEBADGER_LIMIT, 0};
-  const uint32_t h = uint32_t(halfedges), twin = first_bad_twin(cage.twin.data(), h);
-  if (twin < h) return {RYEBADGER_TWIN, twin};
-  const Counts n{h, count_edges(cage.twin.data(), h), uint32_t(vertices)};
-  if (cage.creases.size() != n.edges) return {RYEBADGER_SHAPE, 0};
-  const Level level{n, cage.twin.data(), cage.vert.data(), cage.edge.data(), cage.points.data(), cage.creases.data()};
-  if (const Verdict verdict = check_from_4(level)) return not_written(verdict);
+  Counts n;
+  if (const Verdict verdict = check(cage, n)) return not_written(verdict);
   const size_t length = length_of(RYEBADGER_FORM_2, n);
   if (lent.size() < length) return {RYEBADGER_ROOM, RYEBADGER_CAGE_FILE};
   uint8_t* at = lent.data();
@@ -274,7 +182,7 @@ Written to_form_2_by_hand(const Bytes& file, Bytes& lent) {
   const uint32_t twin = first_bad_twin(of.twin, of.counts.halfedges);
   if (twin < of.counts.halfedges) return {RYEBADGER_TWIN, twin};
   of.counts.edges = count_edges(of.twin, of.counts.halfedges);
-  if (const Verdict verdict = check_from_4(of)) return not_written(verdict);
+  if (const Verdict verdict = check_held(of)) return not_written(verdict);
   const size_t length = length_of(RYEBADGER_FORM_2, of.counts);
   if (lent.size() < length) return {RYEBADGER_ROOM, RYEBADGER_CAGE_FILE};
   const uint8_t creases[kMost] = {};
@@ -285,7 +193,7 @@ Written to_form_2_by_hand(const Bytes& file, Bytes& lent) {
 Written to_form_1_by_hand(const Bytes& file, Bytes& lent) {
   Parsed of;
   if (const Verdict verdict = parse(file, RYEBADGER_FORM_2, RYEBADGER_FORM_2, of)) return not_written(verdict);
-  if (const Verdict verdict = check_from_4(of)) return not_written(verdict);
+  if (const Verdict verdict = check_held(of)) return not_written(verdict);
   const auto is_0 = [](uint8_t number) { return number == 0; };
   if (of.weight != 0 || !std::all_of(of.creases, of.creases + of.counts.edges, is_0)) return {RYEBADGER_NOT_OLD, 0};
   const size_t length = length_of(RYEBADGER_FORM_1, of.counts), points = kHead + 12 * size_t(of.counts.vertices);

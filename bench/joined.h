@@ -1,4 +1,4 @@
-// What the engines that build and those that take files by hand share: every check but 13 of plain triangles, and the counts.
+// What the engines that build and those that check cages by hand share: every check but 13 of plain triangles, and the counts.
 #pragma once
 
 #include <algorithm>

@@ -34,6 +34,13 @@ void library_check(const Cage& cage) {
   expect_done("the check", answer);
 }
 
+Why library_why(const Cage& cage) {
+  Why answer;
+  static_assert(std::tuple_size<Why>::value == RYEBADGER_WHY_ANSWER, "saying why");
+  ryebadger_why(CELLS(cage.twin), CELLS(cage.vert), CELLS(cage.edge), CELLS(cage.points), CELLS(cage.creases), answer.data());
+  return answer;
+}
+
 void library_write(const Cage& cage, Bytes& file) {
   uint32_t answer[RYEBADGER_WRITE_ANSWER];
   ryebadger_write(CELLS(cage.twin), CELLS(cage.vert), CELLS(cage.edge), CELLS(cage.points), CELLS(file), answer);

@@ -1,5 +1,5 @@
 // The report: the proved library beside other engines, in refining with either weight and with creases, in building, in writing
-// STL, in the count question and in cage files, its cost by depth, and its other operations by size.
+// STL, in the count question, in cage files and in saying why, its cost by depth, and its other operations by size.
 #include <cstdio>
 #include <functional>
 #include <stdexcept>
@@ -15,6 +15,7 @@
 #include "rows.h"
 #include "stl.h"
 #include "weights.h"
+#include "why.h"
 
 namespace {
 
@@ -143,6 +144,7 @@ int main(int count, char** words) try {
   const bool refining = print_engines(), weights = print_weights(), creases = print_creases(), building = print_building(),
              stl = print_stl(), counts = print_counts();
   print_files();
+  print_why();
   print_depths();
   print_operations();
   return bars && !(refining && weights && creases && building && stl && counts) ? 1 : 0;

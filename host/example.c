@@ -24,6 +24,18 @@ static void end_if_refused(void) {
     if (answer[0] != RYEBADGER_DONE) fprintf(stderr, "refused %u %u\n", answer[0], answer[1]), exit(1);
 }
 
+/* The check. What it refuses by a clause is told with that clause and the numbers that show it. */
+static void end_if_check_refuses(size_t h, size_t v, size_t e) {
+    ryebadger_check(twin, h, vert, h, edge, h, points, 3 * v, creases, e, answer);
+    if (answer[0] == RYEBADGER_DONE) return;
+    ryebadger_why(twin, h, vert, h, edge, h, points, 3 * v, creases, e, answer);
+    if (answer[RYEBADGER_AT_CLAUSE] == RYEBADGER_NO_CLAUSE) end_if_refused();
+    const uint32_t *shown = answer + RYEBADGER_AT_SHOWN;
+    fprintf(stderr, "refused %u %u by clause %u: %u %u %u\n", answer[0], answer[1], answer[RYEBADGER_AT_CLAUSE], shown[0],
+            shown[1], shown[2]);
+    exit(1);
+}
+
 static uint32_t weight_named(const char *word) {
     if (strcmp(word, "short") == 0) return RYEBADGER_SHORT_WEIGHT;
     if (strcmp(word, "paper") == 0) return RYEBADGER_PAPER_WEIGHT;
@@ -72,8 +84,7 @@ int main(int argc, char **argv) {
     ryebadger_edges(twin, h, answer);
     const size_t e = answer[0];
     for (int word = 5; word < argc; word++) crease(argv[word], e);
-    ryebadger_check(twin, h, vert, h, edge, h, points, 3 * v, creases, e, answer);
-    end_if_refused();
+    end_if_check_refuses(h, v, e);
     ryebadger_counts(h, e, v, depth, answer);
     end_if_refused();
     const size_t room = answer[RYEBADGER_AT_H_ROOM], points_room = 3 * answer[RYEBADGER_AT_V_ROOM];

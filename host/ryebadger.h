@@ -1,6 +1,6 @@
-/* Ryebadger for C and C++: check, quote, refine, read and write a triangle cage, move its file from one form to the other,
- * build a cage from plain triangles, or write any level as STL. The words, numbers and tables are those of document 01, the
- * scope of the build, and of document 02, its requests; what each operation promises here is proved of it.
+/* Ryebadger for C and C++: check, quote, refine, read and write a triangle cage, say why one is sent back, move its file from
+ * one form to the other, build a cage from plain triangles, or write any level as STL. The words, numbers and tables are those
+ * of document 01, the scope of the build, and of document 02, its requests; what each operation promises here is proved of it.
  *
  * The archive to link is target/host/libryebadger.a, which host/build makes.
  *
@@ -16,8 +16,8 @@
  *   answer[0]  the number: 0 is done, any other is the refusal of that number
  *   answer[1]  the place: 0 when done
  *   the rest   the values: all 0 on a refusal
- * Only ryebadger_edges, which never refuses, has neither number nor place. A refusal alters nothing but the answer. Done,
- * every cell that the operation does not promise to write is untouched.
+ * Only ryebadger_edges, which never refuses, has neither number nor place, and only ryebadger_why has values on a refusal. A
+ * refusal alters nothing but the answer. Done, every cell that the operation does not promise to write is untouched.
  *
  * What the caller has to see to, since no operation can check it:
  *   - A pointer is never null and is aligned for its cells, also with length 0. It need not point at memory then.
@@ -102,14 +102,35 @@ enum ryebadger_place {
     RYEBADGER_CREASE_TABLE = 7
 };
 
+/* The clauses of the numbers 3 to 7, counted from 1 in each, with the number they belong to and what is shown of them at the
+ * place h, where t is TWIN(h). Of the three numbers that are shown those not named are 0. */
+enum ryebadger_clause {
+    RYEBADGER_NO_CLAUSE = 0,          /* accepted, or a number that has no clauses: none */
+    RYEBADGER_TWIN_PAST_TABLE = 1,    /* 3: t, H */
+    RYEBADGER_TWIN_ITSELF = 2,        /* 3: t */
+    RYEBADGER_TWIN_NOT_RETURNED = 3,  /* 3: t, TWIN(t), which may be the marker */
+    RYEBADGER_VERTEX_PAST_POINTS = 1, /* 4: VERT(h), V */
+    RYEBADGER_ENDS_ALIKE = 2,         /* 4: VERT(h), NEXT(h), which has the same vertex */
+    RYEBADGER_TWIN_ENDS_DIFFER = 3,   /* 4: t, VERT(t), VERT(NEXT(h)) */
+    RYEBADGER_VERTEX_UNUSED = 1,      /* 5: the vertex */
+    RYEBADGER_EDGE_PAST_COUNT = 1,    /* 6: EDGE(h), E */
+    RYEBADGER_EDGE_DIFFERS = 2,       /* 6: t, EDGE(h), EDGE(t) */
+    RYEBADGER_EDGE_SHARED = 3,        /* 6: EDGE(h), the lowest other halfedge than h and t that has it */
+    RYEBADGER_NOT_JOINED = 1          /* 7: the lowest corner at the vertex, the lowest there that is not joined to it */
+};
+
 /* The lengths of the answers. Building answers as the cage check does, refining as the count question, the moves and writing
  * STL as writing a cage file. */
 #define RYEBADGER_CHECK_ANSWER 7
+#define RYEBADGER_WHY_ANSWER 6
 #define RYEBADGER_EDGES_ANSWER 1
 #define RYEBADGER_COUNTS_ANSWER 26
 #define RYEBADGER_CORNERS_ANSWER 5
 #define RYEBADGER_READ_ANSWER 7
 #define RYEBADGER_WRITE_ANSWER 3
+
+/* Where the answer of ryebadger_why has its values: the clause, and the first of the three numbers that show it. */
+enum ryebadger_why_values { RYEBADGER_AT_CLAUSE = 2, RYEBADGER_AT_SHOWN = 3 };
 
 /* Where the answer of the count question, which refining gives too, has its values: H, E and V of level 0, those of level d
  * standing d cells further, and the room, which is the sums of H, of V and of E over levels 0 to the depth. */
@@ -141,6 +162,13 @@ void ryebadger_edges(const uint32_t *twin, size_t twin_length, uint32_t answer[R
 void ryebadger_check(const uint32_t *twin, size_t twin_length, const uint32_t *vert, size_t vert_length,
                      const uint32_t *edge, size_t edge_length, const int32_t *points, size_t points_length,
                      const uint8_t *creases, size_t creases_length, uint32_t answer[RYEBADGER_CHECK_ANSWER]);
+
+/* Why the cage check sends a cage back: number and place are the check's. The values stand where enum ryebadger_why_values has
+ * them. They are the first clause of enum ryebadger_clause that holds at the place, in the order of their numbers, and the
+ * three numbers that show it; all 0 where the cage is accepted or the number is none of 3 to 7. */
+void ryebadger_why(const uint32_t *twin, size_t twin_length, const uint32_t *vert, size_t vert_length,
+                   const uint32_t *edge, size_t edge_length, const int32_t *points, size_t points_length,
+                   const uint8_t *creases, size_t creases_length, uint32_t answer[RYEBADGER_WHY_ANSWER]);
 
 /* The count question: refusals 1 and 2. Done, the values are H of the seven levels, E of them and V of them, each 0 past the
  * depth asked, then the room in halfedges, in vertices and in edges. */

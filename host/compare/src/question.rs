@@ -16,6 +16,8 @@ pub const PLACES: [u64; 5] = [1, 2, 3, 4, 7];
 pub enum Question<'a> {
     /// The cage check.
     Check(&'a Cage),
+    /// Why the check sends a cage back.
+    Why(&'a Cage),
     /// E of a TWIN table.
     Edges(&'a [u32]),
     /// The count question: H, E, V and a depth.
@@ -50,6 +52,7 @@ impl Question<'_> {
         );
         let answer = match *self {
             Question::Check(cage) => asked.check(cage),
+            Question::Why(cage) => asked.why(cage),
             Question::Edges(twin) => asked.edges(twin),
             Question::Counts(numbers) => asked.counts(numbers),
             Question::Corners(vert, triangle) => asked.corners(vert, triangle),
@@ -100,6 +103,7 @@ impl Question<'_> {
         };
         match self {
             Question::Check(cage) => format!("check of {}", lengths(cage)),
+            Question::Why(cage) => format!("why of {}", lengths(cage)),
             Question::Edges(twin) => format!("edges of {} twins", twin.len()),
             Question::Counts(numbers) => format!("counts of {numbers:?}"),
             Question::Corners(vert, triangle) => format!("corners of {triangle} in {vert:?}"),

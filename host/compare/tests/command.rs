@@ -7,7 +7,7 @@ use std::path::{Path, PathBuf};
 use std::process::{Command, Output};
 use std::sync::LazyLock;
 
-use compare::{accepted, creased, files_of, named, repository, run};
+use compare::{accepted, creased, files_of, named, refused, repository, run};
 use second::counter::count_levels;
 use second::file::{to_form_1, to_form_2, LONGEST_FORM_2};
 use second::lister::level_lines;
@@ -17,6 +17,7 @@ use second::refusal::Refusal;
 use second::stl::level_0_stl;
 use second::suite::SuiteCage;
 use second::weight::Weight;
+use second::why::{check_file, why_line};
 
 /// A folder of this test's own, empty, elsewhere than the repository.
 fn folder(name: &str) -> PathBuf {
@@ -27,7 +28,7 @@ fn folder(name: &str) -> PathBuf {
 }
 
 /// The commands that take a file.
-const TAKING_FILES: [&str; 4] = ["list", "stl", "form-2", "form-1"];
+const TAKING_FILES: [&str; 5] = ["list", "why", "stl", "form-2", "form-1"];
 
 /// The command, with each of its programs proved: a first run says more.
 static COMMAND: LazyLock<PathBuf> = LazyLock::new(|| {
@@ -109,6 +110,14 @@ fn moved(word: &str, file: &[u8]) -> Result<Vec<u8>, Refusal> {
 fn assert_taken(word: &str, output: &Output, file: &[u8], name: &str) {
     match word {
         "list" => assert_answers(output, level_lines(file), name),
+        "why" => {
+            let status = i32::from(check_file(file).is_err());
+            assert_eq!(
+                told(output),
+                (status, why_line(file), String::new()),
+                "{name}"
+            );
+        }
         "stl" => assert_writes(output, level_0_stl(file), name),
         _ => match moved(word, file) {
             Err(refusal) => {
@@ -242,6 +251,17 @@ fn refused_files_are_told() {
     }
 }
 
+/// The files of cages that each break a clause, in either form.
+#[test]
+fn every_clause_is_told() {
+    let clauses = |entry: &SuiteCage| entry.name.starts_with("clause-");
+    for entry in refused().into_iter().filter(clauses) {
+        for (_, file) in files_of(&entry.cage).into_iter().take(2) {
+            assert_takes("why", &file, &entry.name);
+        }
+    }
+}
+
 /// Some of the second program's damaged files, which are of either form.
 #[test]
 fn damaged_files_are_told() {
@@ -254,8 +274,8 @@ fn damaged_files_are_told() {
     }
 }
 
-/// With a crease, or the paper's weight. It is listed and written as STL all the
-/// same.
+/// With a crease, or the paper's weight. It is listed, explained and written as STL
+/// all the same.
 #[test]
 fn a_file_that_has_no_old_form_is_told() {
     let pillow = named("pillow");
@@ -316,7 +336,7 @@ fn what_is_no_count_question_is_told() {
 
 #[test]
 fn other_words_are_told() {
-    let wrong: [(&[&str], &str); 15] = [
+    let wrong: [(&[&str], &str); 16] = [
         (&[], "no command"),
         (&["corners", "0", "1", "2", "3"], "corners"),
         (&["lists"], "lists"),
@@ -327,6 +347,7 @@ fn other_words_are_told() {
         (&["counts", "12", "6", "4"], "H, E, V and DEPTH"),
         (&["counts", "12", "6", "4", "2", "0"], "H, E, V and DEPTH"),
         (&["list", "one", "two"], "one file"),
+        (&["why", "one", "two"], "one file"),
         (&["stl", "one", "two"], "one file"),
         (&["form-2", "one", "two"], "form-2 takes one file"),
         (&["form-1", "one", "two"], "form-1 takes one file"),
@@ -340,11 +361,12 @@ fn other_words_are_told() {
 
 #[test]
 fn help_is_an_answer() {
-    let wanted: [&[&str]; 8] = [
+    let wanted: [&[&str]; 9] = [
         &["--help"],
         &["-h"],
         &["help"],
         &["list", "--help"],
+        &["why", "--help"],
         &["stl", "--help"],
         &["form-2", "--help"],
         &["form-1", "--help"],
@@ -411,7 +433,7 @@ fn a_stream_that_fails_is_told() {
 #[test]
 fn a_refusal_goes_to_its_own_stream() {
     let script = "head -c 77 triangle.cage | \"$0\" list >/dev/full";
-    for word in ["list", "stl"] {
+    for word in ["list", "why", "stl"] {
         let output = in_shell_for(word, script, "refused-full");
         assert_fails(&output, 3, "output cannot be written");
     }
@@ -460,8 +482,10 @@ fn a_terminal_gets_no_bytes() {
         let part = format!("{word} puts out bytes, which are no text");
         assert_fails(&output, 2, &part);
     }
-    let output = in_shell(script, "terminal");
-    assert_eq!(told(&output), (0, String::new(), String::new()));
+    for word in ["list", "why"] {
+        let output = in_shell_for(word, script, "terminal");
+        assert_eq!(told(&output), (0, String::new(), String::new()));
+    }
 }
 
 #[test]

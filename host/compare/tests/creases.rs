@@ -82,13 +82,14 @@ fn refined_into(
     (counts, tables)
 }
 
-/// A cage that is handed over without creases is checked and refined as one with
-/// a 0 for each edge, in room and without it. Whether it is accepted.
+/// A cage that is handed over without creases is checked, explained and refined as
+/// one with a 0 for each edge, in room and without it. Whether it is accepted.
 fn assert_none_is_zeros(name: &str, cage: &Cage, depth: u64) -> bool {
     let zeros = cage.clone().without_creases();
     let (none, some) = (without_creases(cage), handed(&zeros));
     let checked = ryebadger::check(none);
     assert_eq!(checked, ryebadger::check(some), "{name}");
+    assert_eq!(ryebadger::why(none), ryebadger::why(some), "{name}");
     let judged = Question::Check(&zeros).put_to(&SecondProgram).verdict();
     let numbers = |refusal: ryebadger::Refusal| (refusal.number().into(), refusal.place().into());
     assert_eq!(judged, checked.map_or_else(numbers, |_| (0, 0)), "{name}");
@@ -414,8 +415,8 @@ fn wrong_crease(cage: &mut Cage, on_border: bool, number: u8) -> (u64, u64) {
 }
 
 /// A disc whose hub has 33 corners, with each fault and with each two: the one
-/// whose turn comes first is told, by the check and by refining, before 9, and
-/// nothing that is lent changes.
+/// whose turn comes first is told, by the check, by what says why and by refining,
+/// before 9, and nothing that is lent changes.
 #[test]
 fn the_first_of_two_faults_is_told() {
     let sound = creased(&named("disc-33"), |edge| edge as u8 % 11);
@@ -431,6 +432,8 @@ fn the_first_of_two_faults_is_told() {
             let told = put_first(&mut cage);
             let name = format!("{told:?} before the turn {second}");
             assert_eq!(checked(&name, &cage).verdict(), told, "{name}");
+            let explained = assert_alike(&name, &Question::Why(&cage));
+            assert_eq!(explained.verdict(), told, "{name}");
             for weight in WEIGHTS {
                 let has_valence = weight == Weight::Paper && VALENCE.0 < first;
                 let expected = if has_valence { VALENCE.1 } else { told };

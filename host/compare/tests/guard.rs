@@ -38,6 +38,7 @@ fn changed_everywhere(outcome: &Outcome) -> Vec<(&'static str, usize, Outcome)> 
 fn one_wrong_cell_anywhere_is_reported_there() {
     let (cage, many) = (named("pillow"), named("disc-33"));
     let (seam, sharper) = (creased(&cage, |_| 2), creased(&cage, |_| 11));
+    let broken = named("clause-vertex-pillow-differ-at-1");
     let file = form_1_file(&cage);
     let [plain_file, seam_file] = [&cage, &seam].map(|cage| form_2_file(cage, Weight::Short));
     let room = room_at(&cage, 1).map(|length| length + 3);
@@ -47,6 +48,9 @@ fn one_wrong_cell_anywhere_is_reported_there() {
     for question in [
         Question::Check(&cage),
         Question::Check(&sharper),
+        Question::Why(&cage),
+        Question::Why(&sharper),
+        Question::Why(&broken),
         Question::Edges(&cage.twin),
         Question::Counts([12, 6, 4, 2]),
         Question::Corners(&cage.vert, 1),

@@ -1,6 +1,7 @@
 //! The C header and the C examples, compiled without a warning; the examples'
 //! lines and bytes are the second program's.
 
+use std::collections::BTreeSet;
 use std::path::{Path, PathBuf};
 use std::process::{Command, Output};
 use std::sync::LazyLock;
@@ -18,6 +19,7 @@ use second::questions::files::{form_1_file, form_2_file};
 use second::stl::VERT_LIMIT;
 use second::suite::suite;
 use second::weight::{Weight, VALENCES};
+use second::why::why;
 
 const STRICT: [&str; 4] = ["-Wall", "-Wextra", "-Wpedantic", "-Werror"];
 
@@ -100,6 +102,21 @@ fn the_header_in_c_and_in_cxx() {
         ("MOST_CORNERS", *VALENCES.end() as u64),
         ("CAGE_FILE", 5),
         ("STL_FILE", 6),
+        ("NO_CLAUSE", 0),
+        ("TWIN_PAST_TABLE", 1),
+        ("TWIN_ITSELF", 2),
+        ("TWIN_NOT_RETURNED", 3),
+        ("VERTEX_PAST_POINTS", 1),
+        ("ENDS_ALIKE", 2),
+        ("TWIN_ENDS_DIFFER", 3),
+        ("VERTEX_UNUSED", 1),
+        ("EDGE_PAST_COUNT", 1),
+        ("EDGE_DIFFERS", 2),
+        ("EDGE_SHARED", 3),
+        ("NOT_JOINED", 1),
+        ("AT_CLAUSE", 2),
+        ("AT_SHOWN + 3", 6),
+        ("WHY_ANSWER", 6),
         ("EDGES_ANSWER", 1),
         ("AT_E_ROOM + 1", 26),
         ("COUNTS_ANSWER", 26),
@@ -176,7 +193,13 @@ fn the_example_says_what_is_wrong() {
     itself[12..14].copy_from_slice(&[0, 0]); // TWIN(0)
     heavy[84] = 2;
     for (name, bytes, [depth, weight], status, line) in [
-        ("stray", &stray[..], ["1", "short"], 1, "refused 4 0\n"),
+        (
+            "stray",
+            &stray[..],
+            ["1", "short"],
+            1,
+            "refused 4 0 by clause 1: 7 3 0\n",
+        ),
         ("cut", &triangle[..77], ["1", "short"], 1, "refused 10 75\n"),
         ("longer", &longer, ["1", "short"], 1, "refused 12 78\n"),
         ("deep", &triangle, ["7", "paper"], 1, "refused 2 0\n"),
@@ -201,6 +224,32 @@ fn the_example_says_what_is_wrong() {
     }
     let nowhere = run_example(&folder.join("nowhere"), "1", "short");
     assert_eq!(nowhere.status.code(), Some(2));
+}
+
+/// Every clause, of what a file of form 1 holds of each cage that is there for one.
+#[test]
+fn the_example_says_which_clause_is_broken() {
+    let path = Path::new(env!("CARGO_TARGET_TMPDIR")).join("clause");
+    let mut clauses = BTreeSet::new();
+    for entry in suite() {
+        if !entry.name.starts_with("clause-") {
+            continue;
+        }
+        let file = form_1_file(&entry.cage);
+        let cage = read_cage(&file).expect(&entry.name).cage;
+        let [number, place, clause, x, y, z] = why(&cage).six_numbers();
+        if clause == 0 {
+            continue;
+        }
+        std::fs::write(&path, file).expect("written");
+        let output = run_example(&path, "1", "short");
+        assert_eq!(output.status.code(), Some(1), "{}", entry.name);
+        let line = format!("refused {number} {place} by clause {clause}: {x} {y} {z}\n");
+        assert_eq!(String::from_utf8_lossy(&output.stderr), line);
+        assert!(output.stdout.is_empty(), "{}", entry.name);
+        clauses.insert((number, clause));
+    }
+    assert_eq!(clauses.len(), 11, "{clauses:?}");
 }
 
 const USAGE: &str = "example: usage: example FILE DEPTH short|paper|file [STL [EDGE=NUMBER ...]]\n";

@@ -231,6 +231,7 @@ fn no_other_operation_refuses_a_valence() {
     let [short, paper] = WEIGHTS.map(|weight| form_2_file(&cage, weight));
     for question in [
         Question::Check(&cage),
+        Question::Why(&cage),
         Question::Write(&cage, file.len()),
         Question::Read(&file, [99, 99, 99, 102, 0]),
         Question::WriteForm2(&cage, Weight::Paper, paper.len()),

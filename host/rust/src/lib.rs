@@ -1,6 +1,6 @@
-//! Ryebadger for Rust: check, quote, refine, read and write a triangle cage, move
-//! its file from one form to the other, build a cage from plain triangles, or
-//! write any level as STL.
+//! Ryebadger for Rust: check, quote, refine, read and write a triangle cage, say
+//! why one is sent back, move its file from one form to the other, build a cage
+//! from plain triangles, or write any level as STL.
 //!
 //! The operations are proved, and linked as an archive; this crate hands them
 //! slices and names their answers. The words and numbers are those of document
@@ -9,6 +9,7 @@
 //! | To | Call |
 //! |---|---|
 //! | check a cage | [`check`] |
+//! | say why a cage is sent back | [`why()`], or [`Refusal::reason`] |
 //! | make edges stay sharp | [`Cage::creases`], one number for each of so many [`edges`] |
 //! | quote the counts of all levels, and the room | [`counts`] |
 //! | refine a cage with a [`Weight`] | [`Refined::new`], or [`refine`] into lent tables |
@@ -20,7 +21,7 @@
 //! | build a cage from plain triangles | [`OwnedCage::from_triangles`], or [`build`] into lent tables |
 //! | write a level as STL | [`Cage::to_stl`], or [`write_stl`] into a lent buffer |
 //!
-//! Nothing here panics on any input. `check`, `edges`, `counts`, `refine`,
+//! Nothing here panics on any input. `check`, `why`, `edges`, `counts`, `refine`,
 //! `corners`, `read`, `write`, `write_form_2`, `to_form_2`, `to_form_1`, `build`
 //! and `write_stl` allocate nothing; the others end the program, as Rust does,
 //! where memory is short.
@@ -43,9 +44,11 @@ mod creases;
 mod file;
 mod operations;
 mod owned;
+mod reason;
 mod refusal;
 pub mod sys;
 mod weight;
+mod why;
 
 pub use cage::{
     Cage, LentTables, OwnedCage, COORDINATE_LIMIT, DEPTH_LIMIT, HALFEDGE_LIMIT, LONGEST_TABLE,
@@ -61,5 +64,7 @@ pub use operations::{
     LEVELS,
 };
 pub use owned::Refined;
+pub use reason::Reason;
 pub use refusal::{Refusal, Table};
 pub use weight::{Weight, CORNER_LIMIT};
+pub use why::{why, Why};

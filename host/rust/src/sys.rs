@@ -16,6 +16,10 @@ compile_error!("the archive takes lengths of 64 bits");
 /// place, H, E, F, V and B.
 pub const CHECK_ANSWER: usize = 7;
 
+/// The length of the answer that says why: number, place, clause, and the three
+/// numbers that show it.
+pub const WHY_ANSWER: usize = 6;
+
 /// The length of the answer that is E alone.
 pub const EDGES_ANSWER: usize = 1;
 
@@ -37,6 +41,12 @@ pub const WRITE_ANSWER: usize = 3;
 #[rustfmt::skip] // a table's pointer and length stand side by side
 extern "C" {
     fn ryebadger_check(
+        twin: *const u32, twin_length: usize, vert: *const u32, vert_length: usize,
+        edge: *const u32, edge_length: usize, points: *const i32, points_length: usize,
+        creases: *const u8, creases_length: usize,
+        answer: *mut u32,
+    );
+    fn ryebadger_why(
         twin: *const u32, twin_length: usize, vert: *const u32, vert_length: usize,
         edge: *const u32, edge_length: usize, points: *const i32, points_length: usize,
         creases: *const u8, creases_length: usize,
@@ -107,6 +117,20 @@ pub fn check(cage: Cage<'_>, answer: &mut [u32; CHECK_ANSWER]) {
     let creases = cage.crease_table();
     unsafe {
         ryebadger_check(
+            cage.twin.as_ptr(), cage.twin.len(), cage.vert.as_ptr(), cage.vert.len(),
+            cage.edge.as_ptr(), cage.edge.len(), cage.points.as_ptr(), cage.points.len(),
+            creases.as_ptr(), creases.len(),
+            answer.as_mut_ptr(),
+        );
+    }
+}
+
+/// Why the cage check sends a cage back.
+#[rustfmt::skip]
+pub fn why(cage: Cage<'_>, answer: &mut [u32; WHY_ANSWER]) {
+    let creases = cage.crease_table();
+    unsafe {
+        ryebadger_why(
             cage.twin.as_ptr(), cage.twin.len(), cage.vert.as_ptr(), cage.vert.len(),
             cage.edge.as_ptr(), cage.edge.len(), cage.points.as_ptr(), cage.points.len(),
             creases.as_ptr(), creases.len(),

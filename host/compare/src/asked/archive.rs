@@ -41,6 +41,10 @@ impl Operations for Archive {
         answered(|answer| sys::check(handed(cage), answer))
     }
 
+    fn why(&self, cage: &Cage) -> Vec<u64> {
+        answered(|answer| sys::why(handed(cage), answer))
+    }
+
     fn edges(&self, twin: &[u32]) -> Vec<u64> {
         answered(|answer| sys::edges(twin, answer))
     }

@@ -16,6 +16,9 @@ pub use second_program::SecondProgram;
 /// number, place and values.
 pub trait Operations {
     fn check(&self, cage: &Cage) -> Vec<u64>;
+    /// The values are the clause, and the numbers that show it. A refusal has them
+    /// too.
+    fn why(&self, cage: &Cage) -> Vec<u64>;
     /// The answer is E alone.
     fn edges(&self, twin: &[u32]) -> Vec<u64>;
     fn counts(&self, numbers: [u64; 4]) -> Vec<u64>;

@@ -1,6 +1,6 @@
 //! The safe crate.
 
-use ryebadger::{CageCounts, FileCounts, LevelCounts, Refusal};
+use ryebadger::{CageCounts, FileCounts, LevelCounts, Reason, Refusal, Why, MARKER};
 use second::cage::Cage;
 use second::weight::Weight;
 
@@ -12,6 +12,11 @@ pub struct SafeCrate;
 impl Operations for SafeCrate {
     fn check(&self, cage: &Cage) -> Vec<u64> {
         answer(ryebadger::check(handed(cage)).map(cage_numbers))
+    }
+
+    fn why(&self, cage: &Cage) -> Vec<u64> {
+        let numbers = ryebadger::why(handed(cage)).map_or([0; 6], why_numbers);
+        numbers.map(u64::from).to_vec()
     }
 
     fn edges(&self, twin: &[u32]) -> Vec<u64> {
@@ -81,6 +86,71 @@ fn file_numbers(found: FileCounts) -> [u32; 5] {
 fn cage_numbers(found: CageCounts) -> [u32; 5] {
     let (h, e, f) = (found.halfedges, found.edges, found.triangles);
     [h, e, f, found.vertices, found.borders]
+}
+
+/// Number, place, clause, and the numbers that show it. Number and place of a
+/// clause are the refusal's.
+fn why_numbers(Why { refusal, reason }: Why) -> [u32; 6] {
+    let (number, place) = (refusal.number(), refusal.place());
+    let numbers = reason.map_or([number, place, 0, 0, 0, 0], reason_numbers);
+    assert_eq!(numbers[..2], [number, place], "{reason:?}");
+    numbers
+}
+
+fn reason_numbers(reason: Reason) -> [u32; 6] {
+    use Reason::*;
+    match reason {
+        TwinPastTable {
+            halfedge,
+            twin,
+            halfedges,
+        } => [3, halfedge, 1, twin, halfedges, 0],
+        TwinIsItself { halfedge } => [3, halfedge, 2, halfedge, 0, 0],
+        TwinNotReturned {
+            halfedge,
+            twin,
+            its_twin,
+        } => [3, halfedge, 3, twin, its_twin.unwrap_or(MARKER), 0],
+        VertexPastPoints {
+            corner,
+            vertex,
+            vertices,
+        } => [4, corner, 1, vertex, vertices, 0],
+        EndsAlike {
+            corner,
+            vertex,
+            next,
+        } => [4, corner, 2, vertex, next, 0],
+        EndsOfTwinDiffer {
+            corner,
+            twin,
+            its_vertex,
+            far_end,
+        } => [4, corner, 3, twin, its_vertex, far_end],
+        VertexUnused { vertex } => [5, vertex, 1, vertex, 0, 0],
+        EdgePastCount {
+            halfedge,
+            edge,
+            edges,
+        } => [6, halfedge, 1, edge, edges, 0],
+        EdgeDiffersFromTwin {
+            halfedge,
+            twin,
+            edge,
+            its_edge,
+        } => [6, halfedge, 2, twin, edge, its_edge],
+        EdgeShared {
+            halfedge,
+            edge,
+            stranger,
+        } => [6, halfedge, 3, edge, stranger, 0],
+        NotJoined {
+            vertex,
+            lowest,
+            other,
+        } => [7, vertex, 1, lowest, other, 0],
+        Unknown { .. } => panic!("the documents do not have this: {reason}"),
+    }
 }
 
 fn counts_numbers(counts: LevelCounts) -> [u64; 24] {

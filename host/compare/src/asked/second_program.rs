@@ -13,6 +13,7 @@ use second::refusal::Refusal;
 use second::stl::write_stl;
 use second::tables::LentTables;
 use second::weight::Weight;
+use second::why::why;
 
 use super::{level_numbers, told, Operations};
 
@@ -22,6 +23,10 @@ pub struct SecondProgram;
 impl Operations for SecondProgram {
     fn check(&self, cage: &Cage) -> Vec<u64> {
         answer(check(cage).map(cage_numbers))
+    }
+
+    fn why(&self, cage: &Cage) -> Vec<u64> {
+        why(cage).six_numbers().to_vec()
     }
 
     fn edges(&self, twin: &[u32]) -> Vec<u64> {
