@@ -85,7 +85,7 @@ fn mark_joined(twin: &[u32], marks: &mut [u32], corner: usize)
     mark(twin, marks, corner, false);
 }
 
-// Marks what the walk from a corner meets.
+// Marks what the walk from a corner meets, until it ends at a border or is round.
 fn mark(twin: &[u32], marks: &mut [u32], corner: usize, along: bool)
     requires { ⌜ (Walkable (now twin)) × (corner < length (now twin)) × (length (now twin) ≤ length (now marks)) ⌝ }
     ensures { λ _. ⌜ Marked (now (twin .entry)) along corner (now (marks .entry)) (now (marks .exit)) ⌝ }
@@ -99,6 +99,9 @@ fn mark(twin: &[u32], marks: &mut [u32], corner: usize, along: bool)
             return;
         }
         at = wide(other);
+        if at == corner {
+            return;
+        }
         turn += 1;
     }
 }
