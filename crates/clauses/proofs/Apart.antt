@@ -1,9 +1,9 @@
 -- Rule 7 where it is broken at a vertex: the vertex has a corner (`corner-below`), what is named are two corners that are not joined
 -- (`apart-below`), and that holds of the cage in plain words (`fan-broken`). Assumes nothing.
-use Prim.Native.Nat.{ℕ, _%_, _<_}
+use Prim.Native.Nat.{ℕ, _<_}
 use mathlib.Core.Path.{_≡_, sym, _∙_}
 use mathlib.Core.Logic.{_↔_, _≢_}
-use mathlib.Core.Bool.{Bool, true, false, cond, not, _&&_, true≢false}
+use mathlib.Core.Bool.{true, false, cond, not, _&&_, true≢false}
 use mathlib.Core.List.{List}
 use native.Mathlib.Omega.{arith}
 use lib.Dec.{eqb}

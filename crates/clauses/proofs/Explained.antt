@@ -1,12 +1,10 @@
 -- Every verdict of a check of the tables is explained: `explained`. A refusal from 3 to 7 gets clause 1, 2 or 3 (`clause-named`), any other
 -- answer none (`no-clause`). Assumes nothing.
 use Prim.Native.Nat.{ℕ, zero, suc, _≤_, _<_}
-use mathlib.Core.Path.{_≡_, refl, sym, subst, _∙_}
-use mathlib.Core.Logic.{_≢_, _⊎_, inl, inr}
-use mathlib.Core.List.{List}
-use native.Mathlib.Decide.{ℕ-discrete}
+use mathlib.Core.Path.{_≡_, refl, subst}
+use mathlib.Core.Logic.{_⊎_, inl, inr}
 use native.Mathlib.Omega.{arith}
-use Rattle.halfedges.specs.Refusals.{Verdict, TWIN, VERTEX, UNUSED, EDGE, FAN}
+use Rattle.halfedges.specs.Refusals.{Verdict}
 use Rattle.tables.specs.Tables.{Tables}
 use Rattle.tables.specs.Internal.Walks.{Walkable}
 use Rattle.tables.specs.Internal.Relied.{ForPlaces}

@@ -1,6 +1,5 @@
 // Rules 3, 4 and 6 where they are broken: the first clause that holds, with its numbers.
 ghost use mathlib.Core.Path.{_≡_};
-ghost use mathlib.Core.Bool.{true};
 ghost use Prim.Native.Nat.{_≤_, _<_};
 ghost use lib.ListN.{length};
 ghost use Rattle.halfedges.specs.Cage.{most-halfedges, most-vertices, E};

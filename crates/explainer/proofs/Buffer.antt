@@ -11,7 +11,7 @@ use lib.Seq.{take-all}
 use Rattle.halfedges.specs.Refusals.{Verdict, first}
 use Rattle.clauses.proofs.Explained.{no-clause, at-twin}
 use Rattle.clauses.specs.Clauses.{twinClause}
-use Rattle.filechecks.specs.Contents.{twinsIn, cageIn}
+use Rattle.filechecks.specs.Contents.{cageIn}
 use Rattle.filechecks.specs.FileChecks.{fileChecks, both}
 use Rattle.filelaws.proofs.Prefix.{too-long, longer-alike, longer-twins-alike}
 use Rattle.intake.specs.Intake.{checkFile}

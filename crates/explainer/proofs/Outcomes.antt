@@ -1,7 +1,7 @@
 -- What is said of a file, by what was found of it (`found-explained`), each outcome by the tests that lead to it; and that what is told
 -- holds of the cage in the file in plain words (`file-explained`). Assumes nothing.
 use Prim.Native.Nat.{ℕ}
-use mathlib.Core.Path.{_≡_, sym, ap, _∙_}
+use mathlib.Core.Path.{_≡_, sym, ap}
 use mathlib.Core.Logic.{_≢_}
 use mathlib.Core.List.{List}
 use native.Mathlib.Omega.{arith}

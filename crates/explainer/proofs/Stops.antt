@@ -1,8 +1,8 @@
 -- Where the checks of a file stop: at a number without clauses, or in form 2 at 3, and then the tables are whole (`stopped`). So whatever
 -- the check of a file answers, enough is found for its clause (`file-found`, `file-whole`). Assumes nothing.
-use Prim.Native.Nat.{ℕ, _+_, _*_, _≤_, _<_}
-use mathlib.Core.Path.{_≡_, refl, sym, ap, subst, _∙_}
-use mathlib.Core.Logic.{_≢_, _⊎_, inl, inr, ⊎-elim}
+use Prim.Native.Nat.{ℕ, _+_, _*_, _≤_}
+use mathlib.Core.Path.{_≡_, sym, ap, subst, _∙_}
+use mathlib.Core.Logic.{_⊎_, inl, inr, ⊎-elim}
 use mathlib.Core.Bool.{Bool, true, false}
 use mathlib.Core.List.{List, [], _∷_, _++_}
 use native.Mathlib.Decide.{ℕ-discrete}
@@ -25,11 +25,11 @@ use Rattle.cagefile.specs.declared.fields.Form.{Form}
 use Rattle.cagefile.specs.declared.fields.Form.the-variants.{One, Two}
 use Rattle.cagefile.specs.Fields.{Head, opening}
 use Rattle.filechecks.specs.Contents.{HIn, VIn, formOf, headsIn, twinsIn, past, cageIn}
-use Rattle.filechecks.specs.FileChecks.{fieldChecks, fieldsChecks, Asked, nothing, openingAsked, twinsAsked, weightAsked, laterAsked, frontToBack, fileChecks, both}
+use Rattle.filechecks.specs.FileChecks.{fieldChecks, fieldsChecks, Asked, nothing, openingAsked, twinsAsked, weightAsked, frontToBack, fileChecks, both}
 use Rattle.filechecks.specs.Internal.Sound.{frontChecks}
 use Rattle.filechecks.proofs.Lengths.{twins-length}
 use Rattle.filechecks.proofs.Sound.{opening-kept, checks-sound, sound-length}
-use Rattle.filechecks.proofs.AfterTables.{left, tables, plainLeft, creasedLeft, left-one, left-two, tables-whole}
+use Rattle.filechecks.proofs.AfterTables.{left, tables, creasedLeft, left-one, left-two, tables-whole}
 use Rattle.intake.specs.Intake.{checkFile}
 
 -- ---- checks whose numbers have no clauses

@@ -1,6 +1,5 @@
 -- Document 02, §8 "Say why": what the tool says, in words that can be read out on the telephone. They are this program's own.
 use Prim.Native.Nat.{ℕ}
-use Prim.Native.String.{String}
 use mathlib.Core.Bool.{cond}
 use mathlib.Core.List.{List, [], _∷_, _++_}
 use lib.Dec.{eqb}
@@ -20,44 +19,52 @@ fill [] ns = []
 fill (b ∷ bs) ns = cond (eqb b hash) (decimal (getD ns 0 0) ++ fill bs (drop 1 ns)) (b ∷ fill bs ns)
 
 -- and as a line
-unfoldable pub saying : String → List ℕ → List ℕ
-saying text ns = fill (ascii text) ns ++ (newline ∷ [])
+unfoldable pub saying : List ℕ → List ℕ → List ℕ
+saying text ns = fill text ns ++ (newline ∷ [])
+
+-- by the number of a clause
+unfoldable pub ofThree : ℕ → List ℕ → List ℕ → List ℕ → List ℕ → List ℕ
+ofThree clause one two three ns = cond (eqb clause 1) (saying one ns) (cond (eqb clause 2) (saying two ns) (saying three ns))
 
 -- the place twice, and the numbers shown
 abbrev pub shown : ℕ → Clause → List ℕ
 shown place k = place ∷ place ∷ k .first ∷ k .second ∷ k .third ∷ []
 
--- 3
+-- 3; a twin's twin may be missing
 unfoldable pub twinLine : ℕ → Clause → List ℕ
 twinLine place k =
-    let ns = shown place k in
-    cond (eqb (k .number) 1) (saying "refused 3 #: halfedge # has twin #, past the # halfedges" ns)
-    (cond (eqb (k .number) 2) (saying "refused 3 #: halfedge # has twin #, which is itself" ns)
-    (cond (eqb (k .second) marker) (saying "refused 3 #: halfedge # has twin #, which has no twin" ns)
-    (saying "refused 3 #: halfedge # has twin #, whose twin is #" ns)))
+    cond (eqb (k .second) marker)
+    (saying (ascii "refused 3 #: halfedge # has twin #, which has no twin") (shown place k))
+    (ofThree (k .number)
+    (ascii "refused 3 #: halfedge # has twin #, past the # halfedges")
+    (ascii "refused 3 #: halfedge # has twin #, which is itself")
+    (ascii "refused 3 #: halfedge # has twin #, whose twin is #")
+    (shown place k))
 
 -- 4
 unfoldable pub vertexLine : ℕ → Clause → List ℕ
 vertexLine place k =
-    let ns = shown place k in
-    cond (eqb (k .number) 1) (saying "refused 4 #: corner # names vertex #, past the # points" ns)
-    (cond (eqb (k .number) 2) (saying "refused 4 #: corner # names vertex #, and so does the next corner, #" ns)
-    (saying "refused 4 #: corner # has twin #, which names vertex # instead of #" ns))
+    ofThree (k .number)
+    (ascii "refused 4 #: corner # names vertex #, past the # points")
+    (ascii "refused 4 #: corner # names vertex #, and so does the next corner, #")
+    (ascii "refused 4 #: corner # has twin #, which names vertex # instead of #")
+    (shown place k)
 
 -- 6
 unfoldable pub edgeLine : ℕ → Clause → List ℕ
 edgeLine place k =
-    let ns = shown place k in
-    cond (eqb (k .number) 1) (saying "refused 6 #: halfedge # has edge #, past the # edges" ns)
-    (cond (eqb (k .number) 2) (saying "refused 6 #: halfedge # has twin #, and edge # where its twin has edge #" ns)
-    (saying "refused 6 #: halfedge # has edge #, and so has halfedge #, which is not its twin" ns))
+    ofThree (k .number)
+    (ascii "refused 6 #: halfedge # has edge #, past the # edges")
+    (ascii "refused 6 #: halfedge # has twin #, and edge # where its twin has edge #")
+    (ascii "refused 6 #: halfedge # has edge #, and so has halfedge #, which is not its twin")
+    (shown place k)
 
 -- 5 and 7, which have one clause each
 unfoldable pub aloneLine : ℕ → ℕ → Clause → List ℕ
 aloneLine number place k =
     let ns = shown place k in
-    cond (eqb number 5) (saying "refused 5 #: vertex # is named by no corner" ns)
-    (saying "refused 7 #: vertex # has corners # and #, which are not joined" ns)
+    cond (eqb number 5) (saying (ascii "refused 5 #: vertex # is named by no corner") ns)
+    (saying (ascii "refused 7 #: vertex # has corners # and #, which are not joined") ns)
 
 -- a refusal by its number, 3 to 7, with its clause
 unfoldable pub because : Verdict → Clause → List ℕ
@@ -69,4 +76,4 @@ because w k =
 
 -- an accepted cage, with its H, E, F, V and B
 unfoldable pub accepted : List ℕ → List ℕ
-accepted counts = saying "accepted: halfedges #, edges #, triangles #, vertices #, border edges #" counts
+accepted counts = saying (ascii "accepted: halfedges #, edges #, triangles #, vertices #, border edges #") counts

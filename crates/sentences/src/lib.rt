@@ -1,13 +1,11 @@
 // What is said of a cage: why it is refused, clause by clause, or its counts.
 ghost use mathlib.Core.Path.{_≡_};
-ghost use mathlib.Core.List.{[], _∷_, _++_};
 ghost use Prim.Native.Nat.{_+_, _*_, _≤_};
 ghost use lib.ListN.{length, getD};
 ghost use Rattle.halfedges.specs.Refusals.{told};
 ghost use Rattle.tables.specs.Check.{checked as Check·checked};
-ghost use Rattle.text.specs.Lines.{newline};
 ghost use Rattle.text.specs.Internal.Put.{Put};
-ghost use Rattle.sentences.specs.Sentences.{fill, shown as Sentences·shown, twinLine, vertexLine, edgeLine, aloneLine, because, accepted};
+ghost use Rattle.sentences.specs.Sentences.{saying, ofThree, shown as Sentences·shown, twinLine, vertexLine, edgeLine, aloneLine, because, accepted};
 ghost use Rattle.sentences.specs.Internal.Pieces.{piece};
 use clauses::Clause;
 use halfedges::answer::Answer;
@@ -46,7 +44,7 @@ fn put_piece(out: &mut [u8], at: usize, byte: u8, number: usize) -> usize
 fn put_saying(out: &mut [u8], text: &[u8], numbers: [usize; 5]) -> usize
     requires { ⌜ (20 * length (now text) + 1 ≤ length (now out)) × (length numbers ≡ 5) ⌝ }
     ensures { λ r.
-        ⌜ Put (now (out .entry)) 0 (20 * length (now (text .entry)) + 1) (fill (now (text .entry)) numbers ++ (newline ∷ []))
+        ⌜ Put (now (out .entry)) 0 (20 * length (now (text .entry)) + 1) (saying (now (text .entry)) numbers)
         (now (out .exit)) r ⌝ }
 {
     let mut at = 0;
@@ -78,6 +76,30 @@ fn shown(place: usize, clause: Clause) -> [usize; 5]
     ]
 }
 
+// One of three texts, by the number of a clause.
+fn put_clause(
+    out: &mut [u8],
+    clause: u32,
+    one: &[u8],
+    two: &[u8],
+    three: &[u8],
+    numbers: [usize; 5],
+) -> usize
+    requires { ⌜ (2048 ≤ length (now out)) × (length (now one) ≤ 100) × (length (now two) ≤ 100) × (length (now three) ≤ 100)
+        × (length numbers ≡ 5) ⌝ }
+    ensures { λ r.
+        ⌜ Put (now (out .entry)) 0 2048 (ofThree clause (now (one .entry)) (now (two .entry)) (now (three .entry)) numbers)
+        (now (out .exit)) r ⌝ }
+{
+    if clause == 1 {
+        return put_saying(&mut *out, one, numbers);
+    }
+    if clause == 2 {
+        return put_saying(&mut *out, two, numbers);
+    }
+    put_saying(&mut *out, three, numbers)
+}
+
 // Rule 3.
 fn put_twin(out: &mut [u8], place: usize, clause: Clause) -> usize
     requires { ⌜ 2048 ≤ length (now out) ⌝ }
@@ -86,20 +108,6 @@ fn put_twin(out: &mut [u8], place: usize, clause: Clause) -> usize
     let number = clause.number;
     let second = clause.second;
     let numbers = shown(place, clause);
-    if number == 1 {
-        return put_saying(
-            &mut *out,
-            b"refused 3 #: halfedge # has twin #, past the # halfedges",
-            numbers,
-        );
-    }
-    if number == 2 {
-        return put_saying(
-            &mut *out,
-            b"refused 3 #: halfedge # has twin #, which is itself",
-            numbers,
-        );
-    }
     if second == HalfedgeTable::NO_TWIN {
         return put_saying(
             &mut *out,
@@ -107,8 +115,11 @@ fn put_twin(out: &mut [u8], place: usize, clause: Clause) -> usize
             numbers,
         );
     }
-    put_saying(
+    put_clause(
         &mut *out,
+        number,
+        b"refused 3 #: halfedge # has twin #, past the # halfedges",
+        b"refused 3 #: halfedge # has twin #, which is itself",
         b"refused 3 #: halfedge # has twin #, whose twin is #",
         numbers,
     )
@@ -121,22 +132,11 @@ fn put_vertex(out: &mut [u8], place: usize, clause: Clause) -> usize
 {
     let number = clause.number;
     let numbers = shown(place, clause);
-    if number == 1 {
-        return put_saying(
-            &mut *out,
-            b"refused 4 #: corner # names vertex #, past the # points",
-            numbers,
-        );
-    }
-    if number == 2 {
-        return put_saying(
-            &mut *out,
-            b"refused 4 #: corner # names vertex #, and so does the next corner, #",
-            numbers,
-        );
-    }
-    put_saying(
+    put_clause(
         &mut *out,
+        number,
+        b"refused 4 #: corner # names vertex #, past the # points",
+        b"refused 4 #: corner # names vertex #, and so does the next corner, #",
         b"refused 4 #: corner # has twin #, which names vertex # instead of #",
         numbers,
     )
@@ -149,22 +149,11 @@ fn put_edge(out: &mut [u8], place: usize, clause: Clause) -> usize
 {
     let number = clause.number;
     let numbers = shown(place, clause);
-    if number == 1 {
-        return put_saying(
-            &mut *out,
-            b"refused 6 #: halfedge # has edge #, past the # edges",
-            numbers,
-        );
-    }
-    if number == 2 {
-        return put_saying(
-            &mut *out,
-            b"refused 6 #: halfedge # has twin #, and edge # where its twin has edge #",
-            numbers,
-        );
-    }
-    put_saying(
+    put_clause(
         &mut *out,
+        number,
+        b"refused 6 #: halfedge # has edge #, past the # edges",
+        b"refused 6 #: halfedge # has twin #, and edge # where its twin has edge #",
         b"refused 6 #: halfedge # has edge #, and so has halfedge #, which is not its twin",
         numbers,
     )

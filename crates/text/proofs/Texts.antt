@@ -12,7 +12,7 @@ use native.Mathlib.Nat.{add-zero, le-refl, mul-add, mul-one}
 use native.Mathlib.Numerals.{add-one}
 use native.Mathlib.Omega.{arith}
 use lib.ListN.{length, getD, take, set, length-append, take-append-drop}
-use lib.Seq.{paste, paste-suc, length-paste, take-length, drop-drop}
+use lib.Seq.{paste, paste-suc, take-length, drop-drop}
 use Rattle.io.specs.Digits.{digits, Fewest}
 use Rattle.laws.specs.Below.{endToEnd}
 use Rattle.laws.specs.Internal.Parts.{splice}

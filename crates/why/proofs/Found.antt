@@ -19,9 +19,8 @@ use Rattle.tables.specs.Rules.{misshapen, badTwin, badVertex, unused, badEdge}
 use Rattle.tables.specs.Fans.{notOneFan}
 use Rattle.tables.specs.Internal.Relied.{ForPlaces}
 use Rattle.tables.proofs.Meaning.{shaped, paired}
-use Rattle.creases.specs.Creases.{misshapenCreases, badCrease}
 use Rattle.creases.specs.Check.{creasedRules}
-use Rattle.points.specs.Operations.{vertices, outOfRange, creasedChecks}
+use Rattle.points.specs.Operations.{vertices, creasedChecks}
 use Rattle.clauses.specs.Internal.Reached.{Reached}
 use Rattle.clauses.proofs.Numbers.{Gives, none, also, gives, gives-at, found-at}
 

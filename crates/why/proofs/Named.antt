@@ -2,7 +2,7 @@
 -- clause 1, 2 or 3 (`refused-named`), any other none (`others-none`). Answers that say the same are the same (`why-alike`).
 -- Assumes nothing.
 use Prim.Native.Nat.{ℕ, _≤_}
-use mathlib.Core.Path.{_≡_, refl}
+use mathlib.Core.Path.{_≡_}
 use mathlib.Core.Logic.{inl}
 use mathlib.Core.List.{List}
 use native.Mathlib.Omega.{arith}

@@ -6,7 +6,6 @@ use mathlib.Core.Logic.{_≢_, inl, inr}
 use native.Mathlib.Decide.{decLt}
 use native.Mathlib.Omega.{arith}
 use Rattle.halfedges.specs.Refusals.{told}
-use Rattle.tables.specs.Internal.Relied.{ForPlaces}
 use Rattle.clauses.specs.Clauses.{twinClause, vertexClause, edgeClause, fanClause}
 use Rattle.clauses.proofs.Explained.{Plain, no-clause, at-twin, at-vertex, at-unused, at-edge, at-fan, walkable}
 use Rattle.clauses.proofs.clause_at.Statement.{statement}

@@ -3,7 +3,7 @@ use borrow.Author.Needs.{needs}
 use mathlib.Core.Path.{refl}
 use native.Mathlib.Omega.{arith}
 use Rattle.text.proofs.Texts.{put-within}
-use Rattle.sentences.specs.Sentences.{saying, accepted}
+use Rattle.sentences.specs.Sentences.{accepted}
 use Rattle.sentences.proofs.put_accepted.Statement.{statement}
 use Rattle.sentences.proofs.put_accepted.Tie as tie
 
@@ -17,7 +17,7 @@ same-length : tie.Need-same-length
 same-length c = search needs
 
 returns : tie.Need-returns
-unfolding accepted saying
+unfolding accepted
 returns c = put-within (omega arith) (c .before .before .put-saying .ensures)
 
 pub put-accepted-spec : {M : Type 1} → statement M

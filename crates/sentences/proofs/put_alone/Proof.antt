@@ -1,11 +1,11 @@
 -- Each rule has its text.
 use borrow.Author.Needs.{needs}
-use mathlib.Core.Path.{_≡_, ap}
+use mathlib.Core.Path.{ap}
 use native.Mathlib.Omega.{arith}
 use lib.ListN.{length}
 use borrow.Author.Tests.{eq-eqb, ne-eqb}
 use Rattle.text.proofs.Texts.{put-within}
-use Rattle.sentences.specs.Sentences.{saying, aloneLine}
+use Rattle.sentences.specs.Sentences.{aloneLine}
 use Rattle.sentences.proofs.put_alone.Statement.{statement}
 use Rattle.sentences.proofs.put_alone.Tie as tie
 
@@ -22,7 +22,7 @@ same-length : tie.Need-same-length
 same-length c = search needs
 
 returns : tie.Need-returns
-unfolding aloneLine saying
+unfolding aloneLine
 returns c =
     let put = c .before .before in
     let branch = put .before .before .before in
@@ -39,7 +39,7 @@ same-length-2 : tie.Need-same-length-2
 same-length-2 c = search needs
 
 returns-2 : tie.Need-returns-2
-unfolding aloneLine saying
+unfolding aloneLine
 returns-2 c =
     let put = c .before .before in
     let branch = put .before .before .before in

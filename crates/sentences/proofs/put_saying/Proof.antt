@@ -1,16 +1,14 @@
 -- `put_saying` keeps what is filled so far, and ends the line.
 use borrow.Author.Needs.{needs}
 use Prim.Native.Nat.{_+_, _-_, _≤_}
-use mathlib.Core.Path.{_≡_, refl, sym, subst}
+use mathlib.Core.Path.{_≡_, refl}
 use mathlib.Core.Bool.{cond}
 use mathlib.Core.Logic.{⊎-elim}
 use native.Mathlib.Omega.{arith}
 use lib.Dec.{eqb}
 use lib.ListN.{length, getD}
 use borrow.Author.Tests.{eq-eqb, ne-eqb}
-use Rattle.text.specs.Internal.Put.{Put}
-use Rattle.sentences.specs.Sentences.{hash}
-use Rattle.sentences.specs.Internal.Pieces.{piece}
+use Rattle.sentences.specs.Sentences.{hash, saying}
 use Rattle.sentences.proofs.Filling.{Filled, filled-none, filled-more, filled-all}
 use Rattle.sentences.proofs.put_saying.Statement.{statement}
 use Rattle.sentences.proofs.put_saying.Tie as tie
@@ -67,6 +65,7 @@ same-length : tie.Need-same-length Inv-loop μ-loop
 same-length c = search needs
 
 returns : tie.Need-returns Inv-loop μ-loop
+unfolding saying
 returns c =
     let byte = c .before .before in
     let a = byte .before .before in

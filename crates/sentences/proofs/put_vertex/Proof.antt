@@ -1,82 +1,42 @@
--- Each clause has its text.
+-- The rule has a text for each clause.
 use borrow.Author.Needs.{needs}
-use mathlib.Core.Path.{_≡_, ap}
+use mathlib.Core.Path.{ap}
 use native.Mathlib.Omega.{arith}
 use lib.ListN.{length}
-use borrow.Author.Tests.{eq-eqb, ne-eqb}
-use Rattle.text.proofs.Texts.{put-within}
-use Rattle.sentences.specs.Sentences.{saying, vertexLine}
+use Rattle.sentences.specs.Sentences.{vertexLine}
 use Rattle.sentences.proofs.put_vertex.Statement.{statement}
 use Rattle.sentences.proofs.put_vertex.Tie as tie
 
 shown-requires : tie.Need-shown-requires
 shown-requires c κs = search needs
 
-slice-aggregate-put-saying : tie.Need-slice-aggregate-put-saying
-slice-aggregate-put-saying c = search needs
+slice-aggregate-put-clause : tie.Need-slice-aggregate-put-clause
+slice-aggregate-put-clause c = search needs
 
-put-saying-requires : tie.Need-put-saying-requires
-put-saying-requires c κs = (omega arith, ap length (c .before .before .before .shown .ensures))
+slice-aggregate-put-clause-2 : tie.Need-slice-aggregate-put-clause-2
+slice-aggregate-put-clause-2 c = search needs
+
+slice-aggregate-put-clause-3 : tie.Need-slice-aggregate-put-clause-3
+slice-aggregate-put-clause-3 c = search needs
+
+put-clause-requires : tie.Need-put-clause-requires
+put-clause-requires c κs = (omega arith, omega arith, omega arith, omega arith, ap length (c .before .before .before .before .shown .ensures))
 
 same-length : tie.Need-same-length
 same-length c = search needs
 
 returns : tie.Need-returns
-unfolding vertexLine saying
-returns c =
-    let put = c .before .before in
-    let branch = put .before .before .before in
-    rw (eq-eqb _ 1 (branch .if1 .taken))
-    (put-within (omega arith) (rw (branch .before .shown .ensures) at (put .put-saying .ensures)))
-
-slice-aggregate-put-saying-2 : tie.Need-slice-aggregate-put-saying-2
-slice-aggregate-put-saying-2 c = search needs
-
-put-saying-requires-2 : tie.Need-put-saying-requires-2
-put-saying-requires-2 c κs = (omega arith, ap length (c .before .before .before .before .shown .ensures))
-
-same-length-2 : tie.Need-same-length-2
-same-length-2 c = search needs
-
-returns-2 : tie.Need-returns-2
-unfolding vertexLine saying
-returns-2 c =
-    let put = c .before .before in
-    let branch = put .before .before .before in
-    rw (ne-eqb _ 1 (branch .before .if1 .left), eq-eqb _ 2 (branch .if2 .taken))
-    (put-within (omega arith) (rw (branch .before .before .shown .ensures) at (put .put-saying2 .ensures)))
-
-slice-aggregate-put-saying-3 : tie.Need-slice-aggregate-put-saying-3
-slice-aggregate-put-saying-3 c = search needs
-
-put-saying-requires-3 : tie.Need-put-saying-requires-3
-put-saying-requires-3 c κs = (omega arith, ap length (c .before .before .before .before .shown .ensures))
-
-same-length-3 : tie.Need-same-length-3
-same-length-3 c = search needs
-
-returns-3 : tie.Need-returns-3
-unfolding vertexLine saying
-returns-3 c =
-    let put = c .before .before in
-    let branch = put .before .before .before in
-    rw (ne-eqb _ 1 (branch .before .if1 .left), ne-eqb _ 2 (branch .if2 .left))
-    (put-within (omega arith) (rw (branch .before .before .shown .ensures) at (put .put-saying3 .ensures)))
+unfolding vertexLine
+returns c = let put = c .before .before in rw (put .before .before .before .before .before .shown .ensures) at (put .put-clause .ensures)
 
 pub put-vertex-spec : {M : Type 1} → statement M
 put-vertex-spec =
     tie.close
     (tie.spec
     shown-requires
-    slice-aggregate-put-saying
-    put-saying-requires
+    slice-aggregate-put-clause
+    slice-aggregate-put-clause-2
+    slice-aggregate-put-clause-3
+    put-clause-requires
     same-length
-    returns
-    slice-aggregate-put-saying-2
-    put-saying-requires-2
-    same-length-2
-    returns-2
-    slice-aggregate-put-saying-3
-    put-saying-requires-3
-    same-length-3
-    returns-3)
+    returns)

@@ -1,7 +1,7 @@
 -- `edge_clause` goes through the clauses of rule 6 in order; where two do not hold the third does, and there is a stranger.
 use borrow.Author.Needs.{needs}
-use Prim.Native.Nat.{_≤_, _<_}
-use mathlib.Core.Path.{_≡_, sym, ap, _∙_}
+use Prim.Native.Nat.{_<_}
+use mathlib.Core.Path.{sym, ap, _∙_}
 use mathlib.Core.Logic.{⊎-elim}
 use native.Mathlib.Omega.{arith}
 use lib.ListN.{length}

@@ -1,8 +1,7 @@
 -- `twin_clause` goes through the clauses of rule 3 in order; where two do not hold the third does.
 use borrow.Author.Needs.{needs}
 use Prim.Native.Nat.{_<_}
-use mathlib.Core.Path.{_≡_, sym, ap, _∙_}
-use native.Mathlib.Omega.{arith}
+use mathlib.Core.Path.{_≡_, sym, _∙_}
 use lib.ListN.{length}
 use Rattle.halfedges.specs.Cage.{cell}
 use Rattle.clauses.proofs.Broken.{twin-past, twin-itself, twin-lost}
