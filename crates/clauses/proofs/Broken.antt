@@ -50,8 +50,8 @@ module _ (twin : List ℕ) (h : ℕ) (b : badTwin twin h ≡ true) where
       past t = let p = leb-true _ _ t in subst (TwinBroken twin h) (twin-past p) (TwinBroken.past has-twin p)
 
       inside : cell twin h < length twin → Dec (cell twin h ≡ h) → TwinBroken twin h (twinClause twin h)
-      inside l (yes e) = subst (TwinBroken twin h) (twin-itself l e) (TwinBroken.itself l e)
-      inside l (no o) = subst (TwinBroken twin h) (twin-lost l o) (TwinBroken.not-returned l o (lost l o))
+      inside l (yes e) = subst (TwinBroken twin h) (twin-itself l e) (TwinBroken.itself has-twin l e)
+      inside l (no o) = subst (TwinBroken twin h) (twin-lost l o) (TwinBroken.not-returned has-twin l o (lost l o))
 
 -- ---- 4
 

@@ -95,8 +95,8 @@ Named k = (1 ≤ k .number) × (k .number ≤ 3)
 
 pub clause-named : {c : Tables} {v : ℕ} {w : Verdict} {k : Clause} → 3 ≤ w .number → w .number ≤ 7 → Explained c v w k → Named k
 clause-named a b (Explained.twin-at h e (TwinBroken.past x y)) = (omega arith, omega arith)
-clause-named a b (Explained.twin-at h e (TwinBroken.itself x y)) = (omega arith, omega arith)
-clause-named a b (Explained.twin-at h e (TwinBroken.not-returned x y d)) = (omega arith, omega arith)
+clause-named a b (Explained.twin-at h e (TwinBroken.itself x y d)) = (omega arith, omega arith)
+clause-named a b (Explained.twin-at h e (TwinBroken.not-returned x y d f)) = (omega arith, omega arith)
 clause-named a b (Explained.vertex-at h e (VertexBroken.past x)) = (omega arith, omega arith)
 clause-named a b (Explained.vertex-at h e (VertexBroken.alike x y)) = (omega arith, omega arith)
 clause-named a b (Explained.vertex-at h e (VertexBroken.differ x y d f)) = (omega arith, omega arith)

@@ -1,7 +1,6 @@
--- A text filled byte by byte: `filled-none` before the first, `filled-more` by one, `filled-all` with the end of the line; `put-as` by another
--- name. Assumes nothing.
+-- A text filled byte by byte: `filled-none` before the first, `filled-more` by one, `filled-all` with the end of the line. Assumes nothing.
 use Prim.Native.Nat.{ℕ, _+_, _*_, _≤_, _<_, zero-le}
-use mathlib.Core.Path.{_≡_, refl, sym, ap, subst, _∙_}
+use mathlib.Core.Path.{_≡_, refl, sym, ap, _∙_}
 use mathlib.Core.Bool.{cond}
 use mathlib.Core.List.{List, [], _∷_, _++_, append-assoc, append-nil}
 use native.Mathlib.Nat.{add-zero}
@@ -55,7 +54,3 @@ module _ {before text ns now now' : List ℕ} {at at' used i : ℕ} where
   filled-all e r p =
       let all : fill text ns ≡ r .done = r .rest ∙ ap (λ t. r .done ++ fill t (drop used ns)) (ap (λ n. drop n text) e ∙ drop-length text) ∙ append-nil (r .done) in
       rw (all, ← e) (put-more zero-le (r .put) p)
-
--- the same text by another name
-pub put-as : {a b x y : List ℕ} {i m n : ℕ} → x ≡ y → Put a i m x b n → Put a i m y b n
-put-as {a} {b} {i = i} {m} {n} e p = subst (λ t. Put a i m t b n) e p

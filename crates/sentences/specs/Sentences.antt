@@ -50,6 +50,10 @@ vertexLine place k =
     (ascii "refused 4 #: corner # has twin #, which names vertex # instead of #")
     (shown place k)
 
+-- 5
+unfoldable pub unusedLine : ℕ → Clause → List ℕ
+unusedLine place k = saying (ascii "refused 5 #: vertex # is named by no corner") (shown place k)
+
 -- 6
 unfoldable pub edgeLine : ℕ → Clause → List ℕ
 edgeLine place k =
@@ -59,20 +63,18 @@ edgeLine place k =
     (ascii "refused 6 #: halfedge # has edge #, and so has halfedge #, which is not its twin")
     (shown place k)
 
--- 5 and 7, which have one clause each
-unfoldable pub aloneLine : ℕ → ℕ → Clause → List ℕ
-aloneLine number place k =
-    let ns = shown place k in
-    cond (eqb number 5) (saying (ascii "refused 5 #: vertex # is named by no corner") ns)
-    (saying (ascii "refused 7 #: vertex # has corners # and #, which are not joined") ns)
+-- 7
+unfoldable pub fanLine : ℕ → Clause → List ℕ
+fanLine place k = saying (ascii "refused 7 #: vertex # has corners # and #, which are not joined") (shown place k)
 
 -- a refusal by its number, 3 to 7, with its clause
 unfoldable pub because : Verdict → Clause → List ℕ
 because w k =
     cond (eqb (w .number) 3) (twinLine (w .place) k)
     (cond (eqb (w .number) 4) (vertexLine (w .place) k)
+    (cond (eqb (w .number) 5) (unusedLine (w .place) k)
     (cond (eqb (w .number) 6) (edgeLine (w .place) k)
-    (aloneLine (w .number) (w .place) k)))
+    (fanLine (w .place) k))))
 
 -- an accepted cage, with its H, E, F, V and B
 unfoldable pub accepted : List ℕ → List ℕ

@@ -5,7 +5,7 @@ ghost use lib.ListN.{length, getD};
 ghost use Rattle.halfedges.specs.Refusals.{told};
 ghost use Rattle.tables.specs.Check.{checked as Check·checked};
 ghost use Rattle.text.specs.Internal.Put.{Put};
-ghost use Rattle.sentences.specs.Sentences.{saying, ofThree, shown as Sentences·shown, twinLine, vertexLine, edgeLine, aloneLine, because, accepted};
+ghost use Rattle.sentences.specs.Sentences.{saying, ofThree, shown as Sentences·shown, twinLine, vertexLine, unusedLine, edgeLine, fanLine, because, accepted};
 ghost use Rattle.sentences.specs.Internal.Pieces.{piece};
 use clauses::Clause;
 use halfedges::answer::Answer;
@@ -142,6 +142,19 @@ fn put_vertex(out: &mut [u8], place: usize, clause: Clause) -> usize
     )
 }
 
+// Rule 5.
+fn put_unused(out: &mut [u8], place: usize, clause: Clause) -> usize
+    requires { ⌜ 2048 ≤ length (now out) ⌝ }
+    ensures { λ r. ⌜ Put (now (out .entry)) 0 2048 (unusedLine place clause) (now (out .exit)) r ⌝ }
+{
+    let numbers = shown(place, clause);
+    put_saying(
+        &mut *out,
+        b"refused 5 #: vertex # is named by no corner",
+        numbers,
+    )
+}
+
 // Rule 6.
 fn put_edge(out: &mut [u8], place: usize, clause: Clause) -> usize
     requires { ⌜ 2048 ≤ length (now out) ⌝ }
@@ -159,6 +172,19 @@ fn put_edge(out: &mut [u8], place: usize, clause: Clause) -> usize
     )
 }
 
+// Rule 7.
+fn put_fan(out: &mut [u8], place: usize, clause: Clause) -> usize
+    requires { ⌜ 2048 ≤ length (now out) ⌝ }
+    ensures { λ r. ⌜ Put (now (out .entry)) 0 2048 (fanLine place clause) (now (out .exit)) r ⌝ }
+{
+    let numbers = shown(place, clause);
+    put_saying(
+        &mut *out,
+        b"refused 7 #: vertex # has corners # and #, which are not joined",
+        numbers,
+    )
+}
+
 // A refusal from 3 to 7, by its number, with its clause.
 pub fn put_because(out: &mut [u8], answer: Answer, clause: Clause) -> usize
     requires { ⌜ 2048 ≤ length (now out) ⌝ }
@@ -172,30 +198,13 @@ pub fn put_because(out: &mut [u8], answer: Answer, clause: Clause) -> usize
     if number == 4 {
         return put_vertex(&mut *out, place, clause);
     }
+    if number == 5 {
+        return put_unused(&mut *out, place, clause);
+    }
     if number == 6 {
         return put_edge(&mut *out, place, clause);
     }
-    put_alone(&mut *out, number, place, clause)
-}
-
-// Rules 5 and 7, which have one clause each.
-fn put_alone(out: &mut [u8], number: usize, place: usize, clause: Clause) -> usize
-    requires { ⌜ 2048 ≤ length (now out) ⌝ }
-    ensures { λ r. ⌜ Put (now (out .entry)) 0 2048 (aloneLine number place clause) (now (out .exit)) r ⌝ }
-{
-    let numbers = shown(place, clause);
-    if number == 5 {
-        return put_saying(
-            &mut *out,
-            b"refused 5 #: vertex # is named by no corner",
-            numbers,
-        );
-    }
-    put_saying(
-        &mut *out,
-        b"refused 7 #: vertex # has corners # and #, which are not joined",
-        numbers,
-    )
+    put_fan(&mut *out, place, clause)
 }
 
 // An accepted cage, with what the check returned of it.

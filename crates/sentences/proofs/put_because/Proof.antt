@@ -1,10 +1,9 @@
 -- The rule whose number was given has its own texts.
 use borrow.Author.Needs.{needs}
-use mathlib.Core.Path.{_≡_, sym, ap, _∙_}
+use mathlib.Core.Path.{_≡_, sym, _∙_}
 use borrow.Author.Tests.{eq-eqb, ne-eqb}
 use Rattle.halfedges.specs.Refusals.{told}
-use Rattle.sentences.specs.Sentences.{aloneLine, because}
-use Rattle.sentences.proofs.Filling.{put-as}
+use Rattle.sentences.specs.Sentences.{because}
 use Rattle.sentences.proofs.put_because.Statement.{statement}
 use Rattle.sentences.proofs.put_because.Tie as tie
 
@@ -37,7 +36,9 @@ returns c =
     let put = c .before .before in
     let branch = put .before .before in
     let p = branch .before in
-    rw (eq-eqb (told (start p .args .answer) .number) 3 (number p ∙ branch .if1 .taken)) (rw (place p) at (put .put-twin .ensures))
+    let n = told (start p .args .answer) .number in
+    rw (eq-eqb n 3 (number p ∙ branch .if1 .taken))
+    (rw (place p) at (put .put-twin .ensures))
 
 put-vertex-requires : tie.Need-put-vertex-requires
 put-vertex-requires c κs = search needs
@@ -52,10 +53,11 @@ returns-2 c =
     let branch = put .before .before in
     let p = branch .before .before in
     let n = told (start p .args .answer) .number in
-    rw (ne-eqb n 3 (λ e. branch .before .if1 .left (sym (number p) ∙ e)), eq-eqb n 4 (number p ∙ branch .if2 .taken)) (rw (place p) at (put .put-vertex .ensures))
+    rw (ne-eqb n 3 (λ e. branch .before .if1 .left (sym (number p) ∙ e)), eq-eqb n 4 (number p ∙ branch .if2 .taken))
+    (rw (place p) at (put .put-vertex .ensures))
 
-put-edge-requires : tie.Need-put-edge-requires
-put-edge-requires c κs = search needs
+put-unused-requires : tie.Need-put-unused-requires
+put-unused-requires c κs = search needs
 
 same-length-3 : tie.Need-same-length-3
 same-length-3 c = search needs
@@ -67,11 +69,15 @@ returns-3 c =
     let branch = put .before .before in
     let p = branch .before .before .before in
     let n = told (start p .args .answer) .number in
-    rw (ne-eqb n 3 (λ e. branch .before .before .if1 .left (sym (number p) ∙ e)), ne-eqb n 4 (λ e. branch .before .if2 .left (sym (number p) ∙ e)), eq-eqb n 6 (number p ∙ branch .if3 .taken))
-    (rw (place p) at (put .put-edge .ensures))
+    rw (
+      ne-eqb n 3 (λ e. branch .before .before .if1 .left (sym (number p) ∙ e)),
+      ne-eqb n 4 (λ e. branch .before .if2 .left (sym (number p) ∙ e)),
+      eq-eqb n 5 (number p ∙ branch .if3 .taken),
+    )
+    (rw (place p) at (put .put-unused .ensures))
 
-put-alone-requires : tie.Need-put-alone-requires
-put-alone-requires c κs = search needs
+put-edge-requires : tie.Need-put-edge-requires
+put-edge-requires c κs = search needs
 
 same-length-4 : tie.Need-same-length-4
 same-length-4 c = search needs
@@ -81,10 +87,36 @@ unfolding because
 returns-4 c =
     let put = c .before .before in
     let branch = put .before .before in
-    let p = branch .before .before .before in
+    let p = branch .before .before .before .before in
     let n = told (start p .args .answer) .number in
-    rw (ne-eqb n 3 (λ e. branch .before .before .if1 .left (sym (number p) ∙ e)), ne-eqb n 4 (λ e. branch .before .if2 .left (sym (number p) ∙ e)), ne-eqb n 6 (λ e. branch .if3 .left (sym (number p) ∙ e)))
-    (put-as (ap (λ m. aloneLine m (told (start p .args .answer) .place) (start p .args .clause)) (sym (number p))) (rw (place p) at (put .put-alone .ensures)))
+    rw (
+      ne-eqb n 3 (λ e. branch .before .before .before .if1 .left (sym (number p) ∙ e)),
+      ne-eqb n 4 (λ e. branch .before .before .if2 .left (sym (number p) ∙ e)),
+      ne-eqb n 5 (λ e. branch .before .if3 .left (sym (number p) ∙ e)),
+      eq-eqb n 6 (number p ∙ branch .if4 .taken),
+    )
+    (rw (place p) at (put .put-edge .ensures))
+
+put-fan-requires : tie.Need-put-fan-requires
+put-fan-requires c κs = search needs
+
+same-length-5 : tie.Need-same-length-5
+same-length-5 c = search needs
+
+returns-5 : tie.Need-returns-5
+unfolding because
+returns-5 c =
+    let put = c .before .before in
+    let branch = put .before .before in
+    let p = branch .before .before .before .before in
+    let n = told (start p .args .answer) .number in
+    rw (
+      ne-eqb n 3 (λ e. branch .before .before .before .if1 .left (sym (number p) ∙ e)),
+      ne-eqb n 4 (λ e. branch .before .before .if2 .left (sym (number p) ∙ e)),
+      ne-eqb n 5 (λ e. branch .before .if3 .left (sym (number p) ∙ e)),
+      ne-eqb n 6 (λ e. branch .if4 .left (sym (number p) ∙ e)),
+    )
+    (rw (place p) at (put .put-fan .ensures))
 
 pub put-because-spec : {M : Type 1} → statement M
 put-because-spec =
@@ -98,9 +130,12 @@ put-because-spec =
     put-vertex-requires
     same-length-2
     returns-2
-    put-edge-requires
+    put-unused-requires
     same-length-3
     returns-3
-    put-alone-requires
+    put-edge-requires
     same-length-4
-    returns-4)
+    returns-4
+    put-fan-requires
+    same-length-5
+    returns-5)
