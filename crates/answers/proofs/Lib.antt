@@ -1,3 +1,4 @@
 pub mod Small
 pub mod Verdicts
 pub mod Answers
+pub mod Files

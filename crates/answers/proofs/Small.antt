@@ -1,5 +1,6 @@
--- Lists of small numbers (`fitting-at`, `fitting-both`, `fitting-front`, `fitting-rest`, `fitting-tabulate`, `fitting-when`), every answer's number (`number-small`), and checks with a small number and place: one of
--- them (`given-small`, `givenAt-small`), the first of several (`first-small`, `guarded-small`, `joined-small`). Assumes nothing.
+-- Lists of small numbers (`fitting-at`, `fitting-both`, `fitting-front`, `fitting-rest`, `fitting-tabulate`, `zeros-fit`, `fitting-when`),
+-- every answer's number (`number-small`), and checks with a small number and place: one of them (`given-small`, `givenAt-small`), the first
+-- of several (`first-small`, `guarded-small`, `joined-small`). Assumes nothing.
 use Prim.Native.Nat.{ℕ, zero, suc, _≤_, _<_, zero-le, suc-le-suc}
 use mathlib.Core.Path.{_≡_, refl}
 use mathlib.Core.Bool.{Bool, true, false, cond}
@@ -7,7 +8,7 @@ use mathlib.Core.List.{List, [], _∷_, _++_}
 use native.Mathlib.Decide.{ℕ-discrete}
 use native.Mathlib.Omega.{arith}
 use lib.Dec.{eqb}
-use lib.ListN.{getD}
+use lib.ListN.{getD, replicate}
 use borrow.Author.Tests.{eqb-true}
 use Rattle.laws.specs.Below.{tabulate, any, lowest}
 use Rattle.laws.proofs.Tests.{by-test}
@@ -38,6 +39,10 @@ fitting-rest (n ∷ ns) ms f = fitting-rest ns ms (f .1)
 pub fitting-tabulate : (n : ℕ) (f : ℕ → ℕ) → ((k : ℕ) → k < n → f k < 4294967296) → Fitting (tabulate n f)
 fitting-tabulate zero f l = tt
 fitting-tabulate (suc n) f l = (l 0 (suc-le-suc zero-le), fitting-tabulate n (λ k. f (suc k)) (λ k m. l (suc k) (suc-le-suc m)))
+
+-- the zeros of a refusal
+pub zeros-fit : Fitting (replicate 5 0)
+zeros-fit = (omega arith, (omega arith, (omega arith, (omega arith, (omega arith, tt)))))
 
 pub fitting-when : (v : Verdict) (ns ms : List ℕ) → (v .number ≡ 0 → Fitting ns) → Fitting ms → Fitting (whenDone v ns ms)
 fitting-when v ns ms f g = by-test (eqb (v .number) 0) (λ e. rw e (f (eqb-true (v .number) 0 e))) (λ e. rw e g)

@@ -3,7 +3,7 @@ use borrow.Author.Needs.{needs}
 use mathlib.Core.Path.{sym, ap, subst, _∙_}
 use Rattle.answers.specs.Cells.{cells}
 use Rattle.answers.specs.Internal.Fitting.{Fitting}
-use Rattle.answers.proofs.Answers.{read-fits}
+use Rattle.answers.proofs.Files.{read-fits}
 use Rattle.ryebadger.proofs.ryebadger_read.Statement.{statement}
 use Rattle.ryebadger.proofs.ryebadger_read.Tie as tie
 

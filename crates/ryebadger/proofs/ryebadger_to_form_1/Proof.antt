@@ -3,7 +3,7 @@ use borrow.Author.Needs.{needs}
 use mathlib.Core.Path.{sym, ap, subst, _∙_}
 use Rattle.answers.specs.Cells.{lengthCells}
 use Rattle.answers.specs.Internal.Fitting.{Fitting}
-use Rattle.answers.proofs.Answers.{move-fits}
+use Rattle.answers.proofs.Files.{move-fits}
 use Rattle.ryebadger.proofs.ryebadger_to_form_1.Statement.{statement}
 use Rattle.ryebadger.proofs.ryebadger_to_form_1.Tie as tie
 

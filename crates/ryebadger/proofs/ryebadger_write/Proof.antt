@@ -3,7 +3,7 @@ use borrow.Author.Needs.{needs}
 use mathlib.Core.Path.{sym, ap, subst, _∙_}
 use Rattle.answers.specs.Cells.{lengthCells}
 use Rattle.answers.specs.Internal.Fitting.{Fitting}
-use Rattle.answers.proofs.Answers.{write-fits}
+use Rattle.answers.proofs.Files.{write-fits}
 use Rattle.ryebadger.proofs.ryebadger_write.Statement.{statement}
 use Rattle.ryebadger.proofs.ryebadger_write.Tie as tie
 

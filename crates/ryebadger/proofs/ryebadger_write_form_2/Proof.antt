@@ -7,7 +7,7 @@ use Rattle.cagefile.specs.declared.fields.Form.the-variants.{Two}
 use Rattle.writing.specs.Writing.{Written, writeFile}
 use Rattle.answers.specs.Cells.{lengthCells}
 use Rattle.answers.specs.Internal.Fitting.{Fitting}
-use Rattle.answers.proofs.Answers.{write-fits}
+use Rattle.answers.proofs.Files.{write-fits}
 use Rattle.ryebadger.proofs.ryebadger_write_form_2.Statement.{statement}
 use Rattle.ryebadger.proofs.ryebadger_write_form_2.Tie as tie
 

@@ -3,7 +3,7 @@ use borrow.Author.Needs.{needs}
 use Prim.Native.Nat.{_<_}
 use mathlib.Core.Path.{sym, ap, subst, _∙_}
 use Rattle.answers.specs.Cells.{stlCells}
-use Rattle.answers.proofs.Answers.{stl-fits}
+use Rattle.answers.proofs.Files.{stl-fits}
 use Rattle.ryebadger.proofs.ryebadger_write_stl.Statement.{statement}
 use Rattle.ryebadger.proofs.ryebadger_write_stl.Tie as tie
 
