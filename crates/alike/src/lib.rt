@@ -1,6 +1,8 @@
 // Items in groups, each with a label, and for each item the first that is like it: in the same group, with the same label. The items
 // of a group are chained from the last to the first, and along the chain a table keeps, for each label, the item that was met last.
 // Each item is met three times, whatever the numbers are. An item k is chained as k + 1, and 0 ends a chain.
+#![tactic(auto)]
+
 ghost use Rattle.std.specs.Prelude.{ℕ, ◌≤◌, ◌<◌, ◌≡◌, length, get_or};
 ghost use Rattle.alike.specs.Internal.Alike.{bound, Firsts, Keyed, Ready, Chain, Marked, Told};
 

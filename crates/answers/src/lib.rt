@@ -1,4 +1,6 @@
 // The answers of the operations as cells of 32 bits, of one halfedge of 64 bits, which any language can lend.
+#![tactic(auto)]
+
 ghost use Rattle.std.specs.Prelude.{◌≡◌, ◌<◌, [], length};
 ghost use Rattle.halfedges.specs.Refusals.{told};
 ghost use Rattle.halfedges.specs.Counts.{counted as counts_counted};

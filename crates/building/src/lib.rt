@@ -1,4 +1,6 @@
 // Cages that come as plain triangles: the missing tables, from VERT and the points.
+#![tactic(auto)]
+
 ghost use Rattle.std.specs.Prelude.{◌≡◌, [], ◌∷◌, ◌≤◌, length, replicate};
 ghost use Rattle.laws.specs.Parts.{in_front};
 ghost use Rattle.halfedges.specs.Cage.{most_halfedges};

@@ -1,4 +1,6 @@
 // The cage check: any four tables, refusals 1 to 8; with a crease table 15 too, and for refining 14.
+#![tactic(auto)]
+
 ghost use Rattle.std.specs.Prelude.{◌≡◌, ltb, nat_abs, length};
 ghost use Rattle.laws.specs.Below.{any};
 ghost use Rattle.halfedges.specs.Refusals.{POINT, told, given_at, first};

@@ -3,7 +3,7 @@ ghost use Rattle.std.specs.Prelude.{◌≡◌};
 ghost use Rattle.cagefile.specs.Fields.{number as fields_number};
 
 // Form 1, and form 2, which has creases and a weight besides.
-#[derive(Drop)]
+#[derive(Clone, Copy)]
 pub enum Form {
     One,
     Two,

@@ -1,4 +1,6 @@
 // Why tables are sent back: the clause of the rule that is broken, and its numbers.
+#![tactic(auto)]
+
 ghost use Rattle.std.specs.Prelude.{◌≡◌};
 ghost use Rattle.halfedges.specs.Refusals.{told};
 ghost use Rattle.tables.specs.Tables.{tables};
@@ -11,7 +13,7 @@ mod fans;
 mod rules;
 
 // A clause by its number in the rule, and the numbers shown for it; all 0 where there is none.
-#[derive(Drop)]
+#[derive(Clone, Copy)]
 pub struct Clause {
     pub number: u32,
     pub first: u32,

@@ -1,4 +1,6 @@
 // TWIN, VERT and EDGE of one halfedge of a level, from the cage's tables alone.
+#![tactic(auto)]
+
 ghost use Rattle.std.specs.Prelude.{◌≡◌, ◌<◌};
 ghost use Rattle.halfedges.specs.Refusals.{told, first};
 ghost use Rattle.halfedges.specs.Counts.{Hs};
@@ -16,7 +18,7 @@ use levels::refine;
 use tables::check;
 
 // The answer: done with TWIN, VERT and EDGE.
-#[derive(Drop)]
+#[derive(Clone, Copy)]
 pub struct Asked {
     pub answer: Answer,
     pub cells: Cells,

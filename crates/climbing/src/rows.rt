@@ -10,7 +10,7 @@ use splitting::halves::{any_halves, edge_halves, on_edge};
 use tables::cells::is_above;
 
 // TWIN, VERT and EDGE of a halfedge.
-#[derive(Drop)]
+#[derive(Clone, Copy)]
 pub struct Cells {
     pub twin: u32,
     pub vert: u32,

@@ -1,4 +1,6 @@
 // The count question: H, E, V and a depth on standard input, the counts of levels 0 to the depth on standard output.
+#![tactic(auto)]
+
 ghost use Rattle.std.specs.Prelude.{◌<◌, length};
 ghost use Rattle.counter.specs.Internal.Buffer.{longest};
 

@@ -6,7 +6,7 @@ use text::numbers::Number;
 use text::{lines, numbers};
 
 // H, E, V and a depth; or no question.
-#[derive(Drop)]
+#[derive(Clone, Copy)]
 pub enum Question {
     Unasked,
     Asked {

@@ -12,14 +12,14 @@ use points::cells::{point_of, put_point};
 use points::rules::{border_edge, border_vertex, finished_edge, started_edge};
 
 // A corner of a triangle: its vertex, and where that is.
-#[derive(Drop)]
+#[derive(Clone, Copy)]
 pub struct Corner {
     pub vertex: u32,
     pub point: [i32; 3],
 }
 
 // What the pass takes of one halfedge: its number, its cells of TWIN and EDGE, its two ends and the corner opposite to it.
-#[derive(Drop)]
+#[derive(Clone, Copy)]
 struct Halfedge {
     number: usize,
     twin: u32,
@@ -30,7 +30,7 @@ struct Halfedge {
 }
 
 // The three halfedges of a triangle.
-#[derive(Drop)]
+#[derive(Clone, Copy)]
 struct Triangle {
     first: Halfedge,
     second: Halfedge,

@@ -16,7 +16,7 @@ use text::replies;
 use text::replies::Written;
 
 // The check of a file's cage, and the clause of its answer.
-#[derive(Drop)]
+#[derive(Clone, Copy)]
 pub struct Finding {
     pub checked: Checked,
     pub clause: Clause,

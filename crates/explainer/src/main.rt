@@ -1,4 +1,6 @@
 // Why a cage is sent back: one cage file on standard input, one line on standard output.
+#![tactic(auto)]
+
 ghost use Rattle.std.specs.Prelude.{◌<◌, length};
 ghost use Rattle.intake.specs.Internal.Buffer.{longest};
 

@@ -13,7 +13,7 @@ use tables::check::Checked;
 use text::replies;
 
 // The status, the length of the opening, and how many cells of VERT and of the points the facets are made from.
-#[derive(Drop)]
+#[derive(Clone, Copy)]
 pub struct Opened {
     pub status: usize,
     pub length: usize,

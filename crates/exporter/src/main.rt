@@ -1,4 +1,6 @@
 // STL for the mill: one cage file on standard input, its level 0 as binary STL on standard output.
+#![tactic(auto)]
+
 ghost use Rattle.std.specs.Prelude.{◌<◌, length};
 ghost use Rattle.intake.specs.Internal.Buffer.{longest};
 ghost use Rattle.stl.specs.Internal.Facets.{Drawn};

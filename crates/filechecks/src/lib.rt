@@ -1,4 +1,6 @@
 // The checks of a cage file, from front to back.
+#![tactic(auto)]
+
 ghost use Rattle.std.specs.Prelude.{◌≡◌, [], ◌∷◌, ◌++◌, ◌+◌, ◌*◌, ◌≤◌, ◌<◌, eqb, length};
 ghost use Rattle.cagefile.specs.declared.fields.Form.TheVariants.{One, Two};
 ghost use Rattle.cagefile.specs.Fields.{opening, table_heads, later_heads};

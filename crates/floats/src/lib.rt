@@ -1,4 +1,6 @@
 // Coordinates as floats: whole units divided by 1024, exactly.
+#![tactic(auto)]
+
 ghost use Rattle.std.specs.Prelude.{◌≡◌, ◌≤◌, nat_abs};
 ghost use Rattle.points.specs.Operations.{most_coordinate};
 ghost use Rattle.floats.specs.Floats.{float_of};

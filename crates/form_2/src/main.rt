@@ -1,4 +1,6 @@
 // The move to form 2: one cage file on standard input, the file of the same cage in form 2 on standard output.
+#![tactic(auto)]
+
 use cagefile::fields::Form;
 
 fn main() {

@@ -3,7 +3,7 @@ ghost use Rattle.std.specs.Prelude.{◌≡◌};
 ghost use Rattle.halfedges.specs.Refusals.{told};
 
 // Done, or the refusal that is given, with its place where it has one.
-#[derive(Drop)]
+#[derive(Clone, Copy)]
 pub enum Answer {
     Done,
     Shape,

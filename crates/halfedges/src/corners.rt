@@ -5,7 +5,7 @@ ghost use Rattle.halfedges.specs.Corners.{corners as corners_corners, corner_sha
 use crate::answer::Answer;
 
 // The answer to the corner question.
-#[derive(Drop)]
+#[derive(Clone, Copy)]
 pub struct Corners {
     pub answer: Answer,
     pub corners: [u32; 3],

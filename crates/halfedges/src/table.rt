@@ -8,7 +8,7 @@ ghost use Rattle.halfedges.specs.Counts.{finer as counts_finer, counts_at, level
 use crate::answer::Answer;
 
 // The counts of one level's halfedge table: H, E and V.
-#[derive(Drop)]
+#[derive(Clone, Copy)]
 pub struct HalfedgeTable {
     pub halfedges: usize,
     pub edges: usize,
@@ -230,7 +230,7 @@ impl HalfedgeTable {
 }
 
 // H, E and V of the seven levels, and the room: the sums of H, of V and of E.
-#[derive(Drop)]
+#[derive(Clone, Copy)]
 pub struct Levels {
     pub halfedges: [usize; 7],
     pub edges: [usize; 7],
@@ -256,7 +256,7 @@ impl Levels {
 }
 
 // The answer to the count question.
-#[derive(Drop)]
+#[derive(Clone, Copy)]
 pub struct Counted {
     pub answer: Answer,
     pub levels: Levels,

@@ -1,4 +1,6 @@
 // A cage file of either form taken in: read into tables that have room for any cage, and checked.
+#![tactic(auto)]
+
 ghost use Rattle.std.specs.Prelude.{◌≡◌, replicate};
 ghost use Rattle.halfedges.specs.Cage.{most_halfedges};
 ghost use Rattle.halfedges.specs.Refusals.{told};

@@ -1,2 +1,4 @@
 // The levels of a cage's tables, end to end.
+#![tactic(auto)]
+
 pub mod refine;

@@ -1,4 +1,6 @@
 // The level lister: one cage file on standard input, the counts of its seven levels on standard output.
+#![tactic(auto)]
+
 ghost use Rattle.std.specs.Prelude.{◌<◌, length};
 ghost use Rattle.intake.specs.Internal.Buffer.{longest};
 

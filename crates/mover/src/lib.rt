@@ -1,4 +1,6 @@
 // A cage file moved from a form to a form, as the programs of the moves do it: the new file, or the refusal.
+#![tactic(auto)]
+
 ghost use Rattle.std.specs.Prelude.{◌≡◌, ◌≢◌, ◌≤◌, ◌<◌, length};
 ghost use Rattle.io.specs.Counts.{IsPrefixLen};
 ghost use Rattle.halfedges.specs.Refusals.{told};

@@ -1,4 +1,6 @@
 // The moves between the forms of a cage file: a file is read into tables on the stack, and its cage written in the other form.
+#![tactic(auto)]
+
 ghost use Rattle.std.specs.Prelude.{◌≡◌, [], ◌∷◌, ◌++◌, length};
 ghost use Rattle.cagefile.specs.declared.fields.Form.TheVariants.{One, Two};
 ghost use Rattle.halfedges.specs.Cage.{E};

@@ -12,7 +12,7 @@ use spokes::vertices::settle_vertices;
 
 // A level: its number, how many come after it, its counts, how many halfedges the level before has, which is 0 for the cage, and
 // where its halfedges and its points start in the lent tables.
-#[derive(Drop)]
+#[derive(Clone, Copy)]
 pub struct Level {
     pub number: usize,
     pub left: usize,

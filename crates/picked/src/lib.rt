@@ -1,1 +1,2 @@
 // What follows of asking for one halfedge: the answer is what stands in the refined tables.
+#![tactic(auto)]

@@ -4,14 +4,14 @@ ghost use Rattle.points.specs.Weights.{entry as weights_entry, share as weights_
 ghost use Rattle.points.specs.Internal.Relied.{most_corners};
 
 // Which weight is chosen: document 01's, or that of the paper's rule V.3.
-#[derive(Drop)]
+#[derive(Clone, Copy)]
 pub enum Weight {
     Short,
     Paper,
 }
 
 // What one spoke has: a part of a whole.
-#[derive(Drop)]
+#[derive(Clone, Copy)]
 pub struct Share {
     pub part: u32,
     pub whole: u32,

@@ -1,4 +1,6 @@
 // Reading a cage file of either form into lent tables: all checks first, then the copies.
+#![tactic(auto)]
+
 ghost use Rattle.std.specs.Prelude.{◌≡◌, [], ◌∷◌, ◌+◌, ◌*◌, ◌≤◌, length};
 ghost use Rattle.laws.specs.Parts.{in_front};
 ghost use Rattle.halfedges.specs.Refusals.{DONE, told};
@@ -18,7 +20,7 @@ mod copies;
 
 // The answer of reading: the form, H, V, E and the weight's number where it is done, zeros where it refuses. Of form 1 E and the weight
 // are zero too.
-#[derive(Drop)]
+#[derive(Clone, Copy)]
 pub struct Reading {
     pub answer: Answer,
     pub form: u32,

@@ -1,4 +1,6 @@
 // Refining a cage: levels 0 to the depth end to end in five lent tables.
+#![tactic(auto)]
+
 ghost use Rattle.std.specs.Prelude.{◌≡◌, ◌≤◌, length};
 ghost use Rattle.laws.specs.Parts.{in_front};
 ghost use Rattle.halfedges.specs.Refusals.{told};

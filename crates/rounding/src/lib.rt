@@ -1,4 +1,6 @@
 // Rounding: a numerator over a positive denominator, down, and to the nearest whole number.
+#![tactic(auto)]
+
 ghost use Rattle.std.specs.Prelude.{◌≡◌, ◌-◌, ◌*◌, ◌%◌, ◌^◌, ◌≤◌, ◌<◌, pos, nat_abs, ◌<ℤ◌};
 ghost use Rattle.rounding.specs.Rounding.{round};
 ghost use Rattle.rounding.specs.Internal.Floor.{floor};

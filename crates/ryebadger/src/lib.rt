@@ -1,4 +1,6 @@
 // The library for programs in C, C++ and Rust: each operation on numbers, slices and one lent answer.
+#![tactic(auto)]
+
 ghost use Rattle.std.specs.Prelude.{◌≡◌, [], ◌∷◌};
 ghost use Rattle.halfedges.specs.Cage.{E};
 ghost use Rattle.halfedges.specs.Counts.{count_question};

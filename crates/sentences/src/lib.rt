@@ -1,4 +1,6 @@
 // What is said of a cage: why it is refused, clause by clause, or its counts.
+#![tactic(auto)]
+
 ghost use Rattle.std.specs.Prelude.{◌≡◌, ◌+◌, ◌*◌, ◌≤◌, length, get_or};
 ghost use Rattle.halfedges.specs.Refusals.{told};
 ghost use Rattle.tables.specs.Check.{checked as check_checked};

@@ -8,7 +8,7 @@ use halfedges::table::HalfedgeTable;
 use tables::cells::wide;
 
 // A twin that is known, and NEXT of it.
-#[derive(Drop)]
+#[derive(Clone, Copy)]
 pub struct Known(usize, usize);
 
 // Writes the split of a corner triangle, one that lies at a corner of the level before, in TWIN. Its first halfedge's twin is

@@ -7,11 +7,11 @@ use halfedges::table::HalfedgeTable;
 use tables::cells::wide;
 
 // What a table has for a triangle's three halfedges.
-#[derive(Drop)]
+#[derive(Clone, Copy)]
 pub struct Three(pub u32, pub u32, pub u32);
 
 // What a table has for a halfedge's two halves: the one from its vertex on, and the one after that.
-#[derive(Drop)]
+#[derive(Clone, Copy)]
 pub struct Halves(pub u32, pub u32);
 
 // The twins of a halfedge's two halves, 3h and 3·NEXT(h)+2, from its own twin t: 3·NEXT(t)+2 and 3·t.

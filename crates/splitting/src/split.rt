@@ -22,7 +22,7 @@ pub fn three(table: &[u32], at: usize, first: usize) -> Three
 
 // A table's cells of the four triangles that a triangle is split into: one at each of its halfedges, 3h, 3h+1 and 3h+2,
 // and the middle one, 3H+h.
-#[derive(Drop)]
+#[derive(Clone, Copy)]
 pub struct Split {
     first: Three,
     second: Three,
@@ -31,7 +31,7 @@ pub struct Split {
 }
 
 // Which of a triangle's halfedges are above their twins.
-#[derive(Drop)]
+#[derive(Clone, Copy)]
 pub struct Above(pub bool, pub bool, pub bool);
 
 // A triangle's split, from the halves of its halfedges, the new halfedges across its corners and those of the middle triangle.

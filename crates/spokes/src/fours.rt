@@ -11,7 +11,7 @@ use crate::sums::add_to;
 use points::cells::point_of;
 
 // The vertices of the four triangles of one: its corners u, v, w, and on the edges after them a, b, c.
-#[derive(Drop)]
+#[derive(Clone, Copy)]
 struct Four {
     u: usize,
     v: usize,

@@ -17,7 +17,7 @@ use halfedges::corners;
 pub const FACET: usize = 50;
 
 // A facet: its normal, and its three corners a, b and c.
-#[derive(Drop)]
+#[derive(Clone, Copy)]
 pub struct Facet {
     pub nx: f32,
     pub ny: f32,

@@ -1,4 +1,6 @@
 // Binary STL for the mill: a level's triangles from its VERT table and its points.
+#![tactic(auto)]
+
 ghost use Rattle.std.specs.Prelude.{◌≡◌};
 ghost use Rattle.writing.specs.Writing.{wrote};
 ghost use Rattle.stl.specs.Writing.{write_stl};

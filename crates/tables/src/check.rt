@@ -11,7 +11,7 @@ use halfedges::answer::Answer;
 use halfedges::table::HalfedgeTable;
 
 // The answer of a cage check: done with H, E, F, V and B.
-#[derive(Drop)]
+#[derive(Clone, Copy)]
 pub struct Checked {
     pub answer: Answer,
     pub halfedges: usize,

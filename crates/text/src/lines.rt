@@ -73,7 +73,7 @@ pub fn put_pair(out: &mut [u8], at: usize, one: usize, other: usize, after: u8) 
 }
 
 // The counts of a level.
-#[derive(Drop)]
+#[derive(Clone, Copy)]
 pub struct LevelCounts {
     pub level: usize,
     pub halfedges: usize,

@@ -3,7 +3,7 @@ ghost use Rattle.std.specs.Prelude.{◌≡◌, true, ℕ, ◌-◌, ◌≤◌, �
 ghost use Rattle.text.specs.Numbers.{is_digit, digit_count, numbered, number_in, number_at};
 
 // A number of 64 bits, and where the text goes on after it; or none.
-#[derive(Drop)]
+#[derive(Clone, Copy)]
 pub enum Number {
     Missing,
     Found { value: usize, next: usize },

@@ -20,7 +20,7 @@ pub const MISUSED: usize = 2;
 pub const FAILED: usize = 3;
 
 // A reply's status, and how many bytes its text has, at the front of what was lent for it.
-#[derive(Drop)]
+#[derive(Clone, Copy)]
 pub struct Written {
     pub status: usize,
     pub length: usize,

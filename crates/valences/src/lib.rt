@@ -1,4 +1,6 @@
 // Rule 14: with the paper's weight no inner vertex has more than 32 corners.
+#![tactic(auto)]
+
 ghost use Rattle.std.specs.Prelude.{◌≡◌, ◌<◌, length};
 ghost use Rattle.halfedges.specs.Refusals.{VALENCE, told, given_at, first};
 ghost use Rattle.points.specs.Operations.{many_corners, valence_checks};

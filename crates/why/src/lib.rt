@@ -1,4 +1,6 @@
 // Why any cage is sent back: the check's answer, with the clause of the rule that is broken.
+#![tactic(auto)]
+
 ghost use Rattle.std.specs.Prelude.{◌≡◌};
 ghost use Rattle.tables.specs.Tables.{tables};
 ghost use Rattle.why.specs.Why.{why_cage, explains};
@@ -7,7 +9,7 @@ use clauses::Clause;
 use halfedges::answer::Answer;
 
 // The check's answer, and the clause that is named for it.
-#[derive(Drop)]
+#[derive(Clone, Copy)]
 pub struct Why {
     pub answer: Answer,
     pub clause: Clause,

@@ -1,4 +1,6 @@
 // Writing a cage's file of either form: field by field, each payload straight into the part of the lent file after its head.
+#![tactic(auto)]
+
 ghost use Rattle.std.specs.Prelude.{◌≡◌, ◌+◌, ◌*◌, ◌≤◌, ◌<◌, length};
 ghost use mathlib.Core.List.{[], ◌∷◌, map, flat_map};
 ghost use Rattle.laws.specs.Parts.{in_front};
@@ -17,7 +19,7 @@ use halfedges::answer::Answer;
 use points::weights::Weight;
 
 // The answer of writing: the file's length where it is done, zero where it refuses.
-#[derive(Drop)]
+#[derive(Clone, Copy)]
 pub struct Writing {
     pub answer: Answer,
     pub length: usize,

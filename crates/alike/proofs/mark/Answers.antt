@@ -1,0 +1,78 @@
+-- `mark` goes down a chain: what is marked for a label is the lowest item that was met.
+use borrow.Author.Rules.{rules}
+use Prim.Native.Nat.{ℕ, ◌-◌, ◌<◌}
+use native.Mathlib.Omega.{arith}
+use lib.ListN.{length, length-set, get_or}
+use Rattle.alike.specs.Internal.Alike.{bound}
+use Rattle.alike.proofs.Chains.{at_head, at_next, item_below, next_less}
+use Rattle.alike.proofs.Walks.{lower_start, lower_on, lower_end}
+use Rattle.alike.proofs.mark.Goals as goal
+
+-- a turn: where the function started, the item that is met, and its label
+module _ (i : goal.In-loop-end) where
+  abbrev start : goal.Start
+  start = i.before.before
+
+  abbrev item : ℕ
+  item = i.loop-end.end - 1
+
+  below : item < length start.args.groups.now
+  below = item_below start.requires.0 i.loop-end.invariant.1 i.loop-end-test.true
+
+  small : get_or start.args.labels.now item 0 < bound
+  small = start.requires.0.keyed.label_below item below
+
+  inside : get_or start.args.labels.now item 0 < length i.loop-end.marks
+  inside = omega (arith, small, start.requires.1, i.loop-end.invariant.0)
+
+  falls : get_or start.args.before.now item 0 < i.loop-end.end
+  falls = next_less start.requires.0 i.loop-end.invariant.1 i.loop-end-test.true
+
+pub loop-end-init : goal.loop-end-init
+loop-end-init c = (search rules, at_head c.requires.0, lower_start _ _ c.requires.0 _)
+
+pub offset_bounds-labels-item : goal.offset_bounds-labels-item
+offset_bounds-labels-item c = omega (arith, below c, (start c).requires.0.keyed.few)
+
+pub bounds-labels-item : goal.bounds-labels-item
+bounds-labels-item c = omega (arith, below c.before, (start c.before).requires.0.keyed.long)
+
+pub overflow_cast-label : goal.overflow_cast-label
+overflow_cast-label c = omega (arith, small c.before)
+
+pub overflow_cast-marks : goal.overflow_cast-marks
+overflow_cast-marks c = omega (arith, below c.before, (start c.before).requires.0.keyed.few)
+
+pub offset_bounds-marks-label : goal.offset_bounds-marks-label
+offset_bounds-marks-label c = omega (arith, small c.before)
+
+pub bounds-marks-label : goal.bounds-marks-label
+bounds-marks-label c = inside c.before
+
+pub offset_bounds-before-item : goal.offset_bounds-before-item
+offset_bounds-before-item c = let i = c.before in omega (arith, below i, (start i).requires.0.keyed.few)
+
+pub bounds-before-item : goal.bounds-before-item
+bounds-before-item c = let i = c.before.before in omega (arith, below i, (start i).requires.0.room)
+
+pub overflow_cast-end : goal.overflow_cast-end
+overflow_cast-end c = let i = c.before.before in omega (arith, falls i, i.loop-end.invariant.1.below, (start i).requires.0.keyed.few)
+
+pub loop-end-smaller : goal.loop-end-smaller
+loop-end-smaller c = falls c.before.before
+
+pub loop-end-preserved : goal.loop-end-preserved
+loop-end-preserved c =
+    let i = c.before.before in
+    let s = start i in
+    let v = i.loop-end.invariant in
+    let n = i.loop-end-test.true in
+    (simp length-set v.0, at_next s.requires.0 v.1 n, lower_on _ _ s.requires.0 v.1 n _ (inside i) v.2)
+
+pub shape_of-marks : goal.shape_of-marks
+shape_of-marks c = c.loop-end.invariant.0
+
+pub returns : goal.returns
+returns c =
+    let i = c.loop-end in
+    lower_end _ _ c.requires.0 _ (rw c.loop-end-test.false at i.invariant.2)

@@ -1,0 +1,49 @@
+-- `build_with` answers its checks, and else writes what stands in the table apart.
+use Prim.Native.Nat.{◌≤◌}
+use mathlib.Core.Path.{◌≡◌, sym, ◌∙◌}
+use native.Mathlib.Omega.{arith}
+use lib.ListN.{length, take}
+use lib.Seq.{length-take-le}
+use Rattle.halfedges.specs.Refusals.{DONE}
+use Rattle.triangles.specs.Plain.{twin_table}
+use Rattle.building.specs.Building.{build_verdict}
+use Rattle.building.proofs.Built.{in_front_lem}
+use Rattle.building.proofs.Outcome.{limits, writable, build_done, told_done, build_refused}
+use Rattle.building.proofs.build_with.Goals as goal
+
+-- where the plan is done
+module _ (i : goal.Else-number-ne0) where
+  abbrev plan : goal.After-plan-answer
+  plan = i.before.before.before.before
+
+  abbrev start : goal.Start
+  start = plan.before.before.before.before.before.before.before.before
+
+  done : build_verdict start.args.vert.now start.args.points.now start.args.twin.now start.args.edge.now ≡ DONE
+  done = told_done _ _ _ _ plan.plan-answer.result plan.plan-answer.ensures.result_value i.number.ensures i.if-number-ne0.false
+
+  fits : length start.args.vert.now ≤ length plan.plan-answer.last.0
+  fits = omega (arith, (limits _ _ _ _ done).0, start.requires, plan.plan-answer.kept.0)
+
+  built : take (length start.args.vert.now) plan.plan-answer.last.0 ≡ twin_table start.args.vert.now
+  built = in_front_lem start.args.vert.now start.args.twins.now (plan.plan-answer.ensures.twins_after (sym i.number.ensures ∙ i.if-number-ne0.false))
+
+pub returns-then-number-ne0 : goal.returns-then-number-ne0
+returns-then-number-ne0 c =
+    build_refused _ _ _ _ c.plan-answer.result c.plan-answer.ensures.result_value c.number.ensures c.if-number-ne0.true _ _ c.answered.ensures
+
+pub slice_bounds-write_built-end : goal.slice_bounds-write_built-end
+slice_bounds-write_built-end c = fits c
+
+pub slice_bounds-write_built-end-2 : goal.slice_bounds-write_built-end-2
+slice_bounds-write_built-end-2 c = sym (length-take-le _ _ (fits c.before))
+
+pub write_built-requires : goal.write_built-requires
+write_built-requires c = let i = c.before.before.before in writable _ _ _ _ (done i) (built i)
+
+pub returns : goal.returns
+returns c =
+    let w = c.before.before.before.before in
+    let i = w.before.before.before.before in
+    let e = w.write_built.ensures in
+    build_done _ _ _ _ (done i) (built i) e.0 e.1.0 e.1.1

@@ -1,0 +1,59 @@
+-- `mark` marks one halfedge of the walk with each turn.
+use borrow.Author.Rules.{rules}
+use Prim.Native.Nat.{suc, ◌+◌, ◌-◌, ◌<◌}
+use mathlib.Core.Path.{◌≡◌, sym, ◌∙◌}
+use native.Mathlib.Numerals.{add-one}
+use native.Mathlib.Omega.{arith}
+use lib.ListN.{length, length-set}
+use Rattle.clauses.proofs.Marking.{Going, going_start, going_on, going_end, going_round, going_out}
+use Rattle.clauses.proofs.fans.mark.Goals as goal
+
+-- one halfedge at least is left to go
+left : (c : goal.In-loop-turn) → Going c.args.twin.now c.args.along c.args.corner c.args.marks.now c.loop-turn.marks c.loop-turn.at c.loop-turn.turn (suc (length c.args.twin.now - c.loop-turn.turn))
+left c = let e : length c.args.twin.now + 1 - c.loop-turn.turn ≡ suc (length c.args.twin.now - c.loop-turn.turn) = omega arith in rw e at c.loop-turn.invariant.1
+
+inside : (c : goal.In-loop-turn) → c.loop-turn.at < length c.loop-turn.marks
+inside c = let r = c.loop-turn.invariant.1 in omega (arith, r.inside, r.long, c.requires.2)
+
+pub loop-turn-init : goal.loop-turn-init
+loop-turn-init c = (search rules, going_start _ _ _ _ _ c.requires.1 (omega arith))
+
+pub offset_bounds-marks-at : goal.offset_bounds-marks-at
+offset_bounds-marks-at c = omega (arith, inside c)
+
+pub bounds-marks-at : goal.bounds-marks-at
+bounds-marks-at c = inside c
+
+pub step-other-requires : goal.step-other-requires
+step-other-requires c = (c.requires.0, c.loop-turn.invariant.1.inside)
+
+pub shape_of-marks-then-other : goal.shape_of-marks-then-other
+shape_of-marks-then-other c = simp length-set c.loop-turn.invariant.1.long
+
+pub returns-then-other : goal.returns-then-other
+returns-then-other c = going_end c.requires.2 (left c.before.before) (sym c.step-other.ensures ∙ c.if-other.true)
+
+pub shape_of-marks-then-at-corner : goal.shape_of-marks-then-at-corner
+shape_of-marks-then-at-corner c = simp length-set c.loop-turn.invariant.1.long
+
+pub returns-then-at-corner : goal.returns-then-at-corner
+returns-then-at-corner c =
+    let e = c.before.before in
+    let q = e.step-other.ensures in
+    going_round e.requires.2 (left e.before.before) (λ m. e.if-other.false (q ∙ m)) (sym q ∙ sym c.wide-at.ensures ∙ c.if-at-corner.true)
+
+pub loop-turn-preserved : goal.loop-turn-preserved
+loop-turn-preserved c =
+    let w = c.before in
+    let i = w.loop-turn in
+    let e : length w.args.twin.now + 1 - (i.turn + 1) ≡ length w.args.twin.now - i.turn = omega arith in
+    let q = w.step-other.ensures in
+    (search rules, rw (e, w.wide-at.ensures, q, add-one i.turn) (going_on w.requires.2 (left w.before.before.before) w.requires.0 (λ m. w.if-other.false (q ∙ m))))
+
+pub shape_of-marks : goal.shape_of-marks
+shape_of-marks c = c.loop-turn.invariant.1.long
+
+pub returns : goal.returns
+returns c =
+    let e : length c.args.twin.now + 1 - c.loop-turn.turn ≡ 0 = omega arith in
+    going_out (rw e at c.loop-turn.invariant.1)

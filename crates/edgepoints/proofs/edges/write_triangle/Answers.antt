@@ -1,0 +1,49 @@
+-- `write_triangle` hands on what it reads of a triangle; both ways are the steps of its definition.
+use Prim.Native.Nat.{ℕ}
+use mathlib.Core.Path.{◌≡◌, sym, ap, ◌∙◌, subst}
+use mathlib.Core.Bool.{false}
+use mathlib.Core.List.{List}
+use lib.IntN.{ℤ}
+use Rattle.edgepoints.specs.declared.edges.Triangle.{Triangle}
+use Rattle.edgepoints.specs.Internal.Edges.{Asks, step_edge, triangle_of, border_among, in_turn, AskedInTurn}
+use Rattle.edgepoints.proofs.Writes.{inner_turns, inner-asked}
+use Rattle.edgepoints.proofs.edges.write_triangle.Goals as goal
+
+module _ (a : goal.After-read_triangle-read) where
+  abbrev s : goal.Start
+  s = a.before.before.before.before.before
+
+  abbrev n : ℕ
+  n = s.args.vertices
+
+  abbrev l : List ℤ
+  l = s.args.points.now
+
+  abbrev read : Triangle
+  read = a.read_triangle-read.result
+
+  asked : AskedInTurn (Asks n) (step_edge n) read l
+  asked = subst (λ x. AskedInTurn (Asks n) (step_edge n) x l) (sym a.read_triangle-read.ensures) s.requires.1
+
+  steps_are : in_turn (step_edge n) read l ≡ in_turn (step_edge n) (triangle_of s.args.twin.now s.args.vert.now s.args.edge.now l s.args.triangle) l
+  steps_are = ap (λ x. in_turn (step_edge n) x l) a.read_triangle-read.ensures
+
+none : (e : goal.Else-border_among) → border_among (read e.before.before) ≡ false
+none e = sym e.border_among.ensures ∙ e.if-border_among.false
+
+pub write_any-requires : goal.write_any-requires
+write_any-requires c = asked c.before.before.before
+
+pub returns-then-border_among : goal.returns-then-border_among
+returns-then-border_among c = c.write_any.ensures ∙ steps_are c.before.before.before.before.before
+
+pub write_inner-requires : goal.write_inner-requires
+write_inner-requires c =
+    let a = c.before.before.before in
+    inner-asked (n a) (read a) (l a) (none c.before) (asked a)
+
+pub returns : goal.returns
+returns c =
+    let e = c.before.before.before in
+    let a = e.before.before in
+    c.write_inner.ensures ∙ inner_turns (n a) (read a) (l a) (none e) ∙ steps_are a

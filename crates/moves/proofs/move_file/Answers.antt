@@ -1,0 +1,142 @@
+-- `move_file` reads into tables that have room for any cage, so that what it hands on is the file's cage.
+use Prim.Native.Nat.{ℕ, ◌*◌, ◌≤◌}
+use mathlib.Core.Path.{◌≡◌, sym, ap, ◌∙◌}
+use mathlib.Core.List.{List}
+use native.Mathlib.Omega.{arith}
+use lib.IntN.{ℤ}
+use lib.ListN.{length, replicate}
+use lib.Seq.{length-take-le}
+use Rattle.halfedges.specs.Cage.{E, most_halfedges}
+use Rattle.halfedges.specs.Refusals.{told}
+use Rattle.tables.specs.Tables.{Tables, tables}
+use Rattle.cagefile.specs.Fields.{file}
+use Rattle.reading.specs.declared.Reading.{Reading}
+use Rattle.filechecks.specs.Contents.{cage_in}
+use Rattle.reading.specs.Internal.Fronts.{Fronts}
+use Rattle.filechecks.proofs.Sound.{edges_few}
+use Rattle.writing.proofs.Outcomes.{refused_left}
+use Rattle.moves.specs.Moves.{move}
+use Rattle.moves.proofs.Moved.{cage_there, unread_moves, read_moves}
+use Rattle.moves.proofs.move_file.Goals as goal
+
+-- what was read
+module _ (n : goal.After-number) where
+  abbrev reads : goal.After-read_form-read
+  reads = n.before.before.before.before.before.before
+
+  abbrev start : goal.Start
+  start = reads.before.before.before.before.before.before.before.before
+
+  abbrev f : List ℕ
+  f = start.args.file.now
+
+  abbrev read : Reading
+  read = reads.read_form-read.result
+
+  abbrev now : Tables
+  now = let twins = reads.read_form-read.last.1.1 in tables twins.0 twins.1.0 twins.1.1.0
+
+  abbrev points : List ℤ
+  points = reads.read_form-read.last.1.1.1.1.1.0
+
+  abbrev creases : List ℕ
+  creases = reads.read_form-read.last.1.1.1.1.1.1.0
+
+-- where the file reads
+module _ (i : goal.Else-number-ne0) where
+  abbrev n : goal.After-number
+  n = i.before
+
+  passed : (told (read n).answer).number ≡ 0
+  passed = sym n.number.ensures ∙ i.if-number-ne0.false
+
+  fronts : Fronts (f n) (read n) (now n) (points n) (replicate most_halfedges 0) (creases n)
+  fronts = (reads n).read_form-read.ensures.fronts passed
+
+  twin_held : (read n).halfedges ≤ length (now n).twin
+  twin_held = omega (arith, fronts.halfedges, fronts.sound.few_halfedges, fronts.ample.twin)
+
+  vert_held : (read n).halfedges ≤ length (now n).vert
+  vert_held = omega (arith, fronts.halfedges, fronts.sound.few_halfedges, fronts.ample.vert)
+
+  edge_held : (read n).halfedges ≤ length (now n).edge
+  edge_held = omega (arith, fronts.halfedges, fronts.sound.few_halfedges, fronts.ample.edge)
+
+  points_held : 3 * (read n).vertices ≤ length (points n)
+  points_held = omega (arith, fronts.vertices, fronts.sound.few_vertices, fronts.ample.coordinates)
+
+-- and how many edges it has
+module _ (c : goal.After-count_edges-edges) where
+  abbrev i : goal.Else-number-ne0
+  i = c.before.before.before
+
+  abbrev edges : ℕ
+  edges = c.count_edges-edges.result
+
+  creases_held : edges ≤ length (creases (n i))
+  creases_held =
+      let s = fronts i in
+      omega (arith, c.count_edges-edges.ensures ∙ ap E s.twin-1, edges_few (f (n i)), s.sound.few_halfedges, s.ample.creases)
+
+pub returns-then-number-ne0 : goal.returns-then-number-ne0
+unfolding move
+returns-then-number-ne0 c =
+    let k = c.before in
+    let a = (read k).answer in
+    let s = (start k).args in
+    refused_left a (unread_moves s.from s.to (f k) s.lent-1.now (told a) (reads k).read_form-read.ensures.answer_value (λ z. c.if-number-ne0.true (k.number.ensures ∙ z))) k.number.ensures (file s.to (cage_in (f k))) s.lent-1.now c.if-number-ne0.true
+
+pub overflow_mul-coordinates : goal.overflow_mul-coordinates
+overflow_mul-coordinates c = let s = fronts c.before in omega (arith, s.vertices, s.sound.few_vertices)
+
+pub slice_bounds-twin-end : goal.slice_bounds-twin-end
+slice_bounds-twin-end c = twin_held c.before
+
+pub slice_bounds-count_edges-end : goal.slice_bounds-count_edges-end
+slice_bounds-count_edges-end c = sym (length-take-le _ _ (twin_held c.before.before))
+
+pub slice_bounds-twin-end-2 : goal.slice_bounds-twin-end-2
+slice_bounds-twin-end-2 c = twin_held (i c)
+
+pub slice_bounds-write_form-end : goal.slice_bounds-write_form-end
+slice_bounds-write_form-end c = sym (length-take-le _ _ (twin_held (i c.before)))
+
+pub slice_bounds-vert-end : goal.slice_bounds-vert-end
+slice_bounds-vert-end c = vert_held (i c.before)
+
+pub slice_bounds-write_form-end-2 : goal.slice_bounds-write_form-end-2
+slice_bounds-write_form-end-2 c = sym (length-take-le _ _ (vert_held (i c.before.before)))
+
+pub slice_bounds-edge-end : goal.slice_bounds-edge-end
+slice_bounds-edge-end c = edge_held (i c.before.before)
+
+pub slice_bounds-write_form-end-3 : goal.slice_bounds-write_form-end-3
+slice_bounds-write_form-end-3 c = sym (length-take-le _ _ (edge_held (i c.before.before.before)))
+
+pub slice_bounds-points-end : goal.slice_bounds-points-end
+slice_bounds-points-end c = points_held (i c.before.before.before)
+
+pub slice_bounds-write_form-end-4 : goal.slice_bounds-write_form-end-4
+slice_bounds-write_form-end-4 c = sym (length-take-le _ _ (points_held (i c.before.before.before.before)))
+
+pub slice_bounds-creases-end : goal.slice_bounds-creases-end
+slice_bounds-creases-end c = creases_held c.before.before.before.before
+
+pub slice_bounds-write_form-end-5 : goal.slice_bounds-write_form-end-5
+slice_bounds-write_form-end-5 c = sym (length-take-le _ _ (creases_held c.before.before.before.before.before))
+
+pub write_form-requires : goal.write_form-requires
+write_form-requires c =
+    let e = c.before.before.before.before.before.before.before in
+    length-take-le (edges e) (creases (n (i e))) (creases_held e) ∙ e.count_edges-edges.ensures
+
+pub returns : goal.returns
+returns c =
+    let w = c.before.before in
+    let m = w.before.before in
+    let e = m.before.before.before.before.before.before in
+    let j = i e in
+    let k = n j in
+    let s = (start k).args in
+    let there = cage_there (f k) (read k) (now k) (points k) (creases k) (fronts j) (edges e) e.count_edges-edges.ensures m.numbered.result m.numbered.ensures in
+    rw (← read_moves s.from s.to (f k) s.lent-1.now (told (read k).answer) (reads k).read_form-read.ensures.answer_value (passed j) _ there) w.write_form.ensures

@@ -1,0 +1,28 @@
+-- `read_form` looks at the first field, and then reads: the form that is asked for is one of the two.
+use Prim.Native.Nat.{ℕ}
+use mathlib.Core.Path.{sym, ap, ◌∙◌}
+use mathlib.Core.Logic.{◌≢◌}
+use mathlib.Core.List.{List}
+use lib.IntN.{ℤ}
+use Rattle.halfedges.specs.Refusals.{told}
+use Rattle.tables.specs.Tables.{Tables, tables}
+use Rattle.reading.proofs.Fronts.{ample_told, ample_fronts}
+use Rattle.moves.proofs.FormFirst.{form_refused, form_held}
+use Rattle.moves.proofs.read_form.Goals as goal
+
+pub returns-then-number-ne0 : goal.returns-then-number-ne0
+returns-then-number-ne0 c =
+    let answer = ap (λ a. a.verdict) c.refused.ensures in
+    let stopped : (told c.form_refusal-answer.result).number ≢ 0 = λ z. c.if-number-ne0.true (c.number.ensures ∙ z) in
+    (answer ∙ form_refused _ _ _ c.form_refusal-answer.ensures stopped, λ z. absurd (stopped (sym (ap (λ v. v.number) answer) ∙ z)))
+
+pub returns : goal.returns
+returns c =
+    let lent : Tables = tables c.args.twin.now c.args.vert.now c.args.edge.now in
+    let now : Tables = let twins = c.read.new.twin in tables twins.0 twins.1.0 twins.1.1.0 in
+    let points : List ℤ = c.read.new.twin.1.1.1.0 in
+    let creases : List ℕ = c.read.new.twin.1.1.1.1.0 in (
+      ample_told _ lent c.args.points.now c.args.creases.now c.requires c.read.result now points creases c.read.ensures
+          ∙ form_held _ _ _ c.form_refusal-answer.ensures (sym c.number.ensures ∙ c.if-number-ne0.false),
+      ample_fronts _ lent c.args.points.now c.args.creases.now c.requires c.read.result now points creases c.read.ensures,
+    )

@@ -1,0 +1,83 @@
+-- `write_form` leaves writing to the writer of the form, for form 1 where the cage is plain; else it checks the cage, and gives 16.
+use Prim.Native.Nat.{ℕ}
+use mathlib.Core.Path.{◌≡◌, refl, sym, ap, ◌∙◌}
+use mathlib.Core.Bool.{true, false}
+use mathlib.Core.List.{List}
+use native.Mathlib.Omega.{arith}
+use borrow.Author.Tests.{not-true, not-false}
+use Rattle.halfedges.specs.declared.answer.Answer.TheVariants.{NotOld}
+use Rattle.halfedges.specs.Refusals.{told, first}
+use Rattle.tables.specs.Tables.{tables}
+use Rattle.points.specs.Operations.{creased_checks}
+use Rattle.cage.proofs.CageChecks.{short_checks}
+use Rattle.cagefile.specs.declared.fields.Form.TheVariants.{One, Two}
+use Rattle.cagefile.specs.Fields.{Cage, file}
+use Rattle.writing.proofs.Outcomes.{refused_left}
+use Rattle.moves.specs.Moves.{not_old}
+use Rattle.moves.proofs.CageMoves.{old_plain, plain-written, old_written, moves_refused, moves_not_old}
+use Rattle.moves.proofs.write_form.Goals as goal
+
+module _ (s : goal.Start) where
+  abbrev cage : Cage
+  cage =
+      record {
+        connectivity = tables s.args.twin.now s.args.vert.now s.args.edge.now;
+        points = s.args.points.now;
+        creases = s.args.creases.now;
+        weight = s.args.weight;
+      }
+
+  abbrev lent : List ℕ
+  lent = s.args.lent.now
+
+-- for form 1
+module _ (n : goal.After-is_numbered) where
+  abbrev start : goal.Start
+  start = n.before.before.before.before.before.before.before.before
+
+  one : start.args.form ≡ One
+  one = n.enum_told-in_default-1.given.1
+
+-- and what the answer of the checks tells
+module _ (n : goal.After-number) where
+  abbrev tested : goal.After-is_numbered
+  tested = n.before.before.before
+
+  abbrev w : Cage
+  w = cage (start tested)
+
+  checks : told n.check_for_refining-answer.result ≡ first (creased_checks w.connectivity w.creases w.points 0)
+  checks = n.check_for_refining-answer.ensures ∙ ap first (short_checks w.connectivity w.creases w.points 0)
+
+pub returns-in-Two : goal.returns-in-Two
+returns-in-Two c =
+    let w = c.before.before in
+    let e = w.before.before in
+    let s = e.before.before.before.before.before.before.before in
+    rw (e.enum_told-1.given.1, ← plain-written Two (cage s) (lent s) tt) w.write_form_2.ensures
+
+pub returns-then-not-is_numbered : goal.returns-then-not-is_numbered
+returns-then-not-is_numbered c =
+    let w = c.before.before in
+    let i = w.before.before in
+    let n = i.before in
+    let s = start n in
+    let old : not_old One (cage s) ≡ false = sym n.is_numbered.ensures ∙ not-true _ i.if-not-is_numbered.true in
+    rw (one n, ← old_written (cage s) (lent s) (old_plain One (cage s) s.requires old)) w.write.ensures
+
+pub returns-then-number-ne0 : goal.returns-then-number-ne0
+returns-then-number-ne0 c =
+    let n = c.before in
+    let s = start (tested n) in
+    let a = n.check_for_refining-answer.result in
+    let form = s.args.form in
+    refused_left a (moves_refused form (w n) (lent s) (told a) (checks n) (λ z. c.if-number-ne0.true (n.number.ensures ∙ z))) n.number.ensures (file form (w n)) (lent s) c.if-number-ne0.true
+
+pub returns : goal.returns
+returns c =
+    let n = c.before in
+    let t = tested n in
+    let s = start t in
+    let form = s.args.form in
+    let old : not_old form (w n) ≡ true = ap (λ k. not_old k (w n)) (one t) ∙ sym t.is_numbered.ensures ∙ not-false _ n.if-not-is_numbered.false in
+    refused_left NotOld (moves_not_old form (w n) (lent s) _ (checks n) (sym n.number.ensures ∙ c.if-number-ne0.false) old) refl (file form (w n)) (lent s) (λ z. omega arith)

@@ -1,0 +1,72 @@
+-- `next_points` runs the four passes; each finds what it asks in what the one before left, and `passed` says what the last leaves.
+use Prim.Native.Nat.{ℕ, ◌*◌, ◌≤◌, ◌<◌}
+use mathlib.Core.Path.{◌≡◌, sym, ap, ◌∙◌, subst}
+use mathlib.Core.Logic.{◌≢◌}
+use mathlib.Core.List.{List}
+use lib.IntN.{ℤ}
+use lib.ListN.{length}
+use Rattle.laws.specs.Internal.Steps.{steps}
+use Rattle.tables.specs.Tables.{Tables, tables}
+use Rattle.points.specs.Internal.Relied.{Fourfold}
+use Rattle.spokes.specs.Internal.Sums.{Gathers}
+use Rattle.spokes.specs.Internal.Spokes.{gathered}
+use Rattle.spokes.specs.Internal.Vertices.{SettlesAt, settle}
+use Rattle.edgepoints.specs.Internal.Edges.{Edged, Started, put_edge}
+use Rattle.passes.proofs.Passed.{after_clear, after_gather, after_settle, gathers, settles, writes, passed}
+use Rattle.passes.proofs.level.next_points.Goals as goal
+
+module _ (s : goal.Start) where
+  abbrev own : List ℕ
+  own = s.args.own.now
+
+  abbrev n : ℕ
+  n = s.args.level.counts.vertices
+
+  abbrev c· : Tables
+  c· = tables s.args.twin.now s.args.vert.now s.args.edge.now
+
+  abbrev l : List ℤ
+  l = s.args.points.now
+
+-- the table after each pass
+abbrev start : goal.After-clear_sums → goal.Start
+start a = a.before.before.before.before.before.before
+
+is_cleared : (a : goal.After-clear_sums) → a.clear_sums.new.points ≡ after_clear (start a).args.weight (own (start a)) (start a).args.level.before (start a).args.level.counts (c· (start a)) (l (start a)) (start a).requires
+is_cleared a = a.clear_sums.ensures
+
+is_gathered : (a : goal.After-gather) → let s = start a.before.before.before in a.gather.new.points ≡ after_gather s.args.weight (own s) s.args.level.before s.args.level.counts (c· s) (l s) s.requires
+is_gathered a =
+    let s = start a.before.before.before in
+    a.gather.ensures ∙ ap (gathered s.args.vert.now (n s) s.args.level.before) (is_cleared a.before.before.before)
+
+is_settled : (a : goal.After-settle_vertices) → let s = start a.before.before.before.before.before.before in a.settle_vertices.new.own.1.0 ≡ after_settle s.args.weight (own s) s.args.level.before s.args.level.counts (c· s) (l s) s.requires
+is_settled a =
+    let s = start a.before.before.before.before.before.before in
+    a.settle_vertices.ensures ∙ ap (steps (3 * n s) (settle s.args.weight (own s) (n s))) (is_gathered a.before.before.before)
+
+pub gather-requires : goal.gather-requires
+gather-requires c =
+    let a = c.before.before in
+    let s = start a in
+    subst (λ q. Gathers s.args.vert.now (n s) q × (s.args.level.before ≢ 0 → Fourfold s.args.level.before s.args.vert.now)) (sym (is_cleared a)) (gathers s.args.weight _ _ _ (c· s) (l s) s.requires)
+
+pub settle_vertices-requires : goal.settle_vertices-requires
+settle_vertices-requires c =
+    let a = c.before.before in
+    let s = start a.before.before.before in
+    subst (λ q. (length (own s) ≤ n s) × (6 * n s ≤ length q) × ((i : ℕ) → i < 3 * n s → SettlesAt (own s) (n s) i q)) (sym (is_gathered a)) (settles s.args.weight _ _ _ (c· s) (l s) s.requires)
+
+pub write_edges-requires : goal.write_edges-requires
+write_edges-requires c =
+    let a = c.before.before in
+    let s = start a.before.before.before.before.before.before in
+    subst (λ q. Edged s.args.twin.now s.args.vert.now s.args.edge.now (n s) q × ((h : ℕ) → h < length s.args.vert.now → Started s.args.twin.now s.args.edge.now (n s) h (steps h (put_edge s.args.twin.now s.args.vert.now s.args.edge.now (n s) q) q))) (sym (is_settled a)) (writes s.args.weight _ _ _ (c· s) (l s) s.requires)
+
+pub returns : goal.returns
+returns c =
+    let a = c.before.before.before.before in
+    let s = start a.before.before.before.before.before.before in
+    c.write_edges.ensures
+    ∙ ap (λ q. steps (length s.args.vert.now) (put_edge s.args.twin.now s.args.vert.now s.args.edge.now (n s) q) q) (is_settled a)
+    ∙ passed s.args.weight _ _ _ (c· s) (l s) s.requires

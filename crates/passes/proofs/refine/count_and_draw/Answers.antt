@@ -1,0 +1,39 @@
+-- `count_and_draw` lists the creases of the cage's vertices by a tally of the cage's tables.
+use Prim.Native.Nat.{◌≤◌}
+use mathlib.Core.Path.{sym, ap, ◌∙◌}
+use mathlib.Core.List.{[]}
+use lib.ListN.{length}
+use lib.Seq.{length-take-le}
+use borrow.Author.Rules.{rules}
+use Rattle.tables.specs.Tables.{tables}
+use Rattle.seams.proofs.Counted.{counted_lists}
+use Rattle.passes.specs.Internal.Levels.{cage_of, with_seams}
+use Rattle.passes.proofs.refine.count_and_draw.Goals as goal
+
+-- the tally, once the creases are counted
+module _ (k : goal.After-count_creases) where
+  abbrev s : goal.Start
+  s = k.before.before.before.before.before.before.before.before.before
+
+  enough : s.args.cage.vertices ≤ length k.count_creases.last.1.1.1.1.1.0
+  enough = let small = s.requires.0.few in search rules
+
+pub slice_bounds-count_creases-end : goal.slice_bounds-count_creases-end
+slice_bounds-count_creases-end c = sym (length-take-le c.args.cage.halfedges c.args.twin.now c.requires.0.in_twin)
+
+pub slice_bounds-count_creases-end-2 : goal.slice_bounds-count_creases-end-2
+slice_bounds-count_creases-end-2 c = sym (length-take-le c.args.cage.halfedges c.args.vert.now c.requires.0.in_vert)
+
+pub slice_bounds-count_creases-end-3 : goal.slice_bounds-count_creases-end-3
+slice_bounds-count_creases-end-3 c = sym (length-take-le c.args.cage.halfedges c.args.edge.now c.requires.0.in_edge)
+
+pub slice_bounds-draw_level-end : goal.slice_bounds-draw_level-end
+slice_bounds-draw_level-end c = let k = c.before.before in sym (length-take-le (s k).args.cage.vertices k.count_creases.new.vert.1.1.1.1.0 (enough k))
+
+pub returns : goal.returns
+returns c =
+    let k = c.before.before.before.before.before in
+    let a = (s k).args in
+    c.draw_level.ensures
+    ∙ ap (λ counts. with_seams a.creases.now counts a.level (tables [] a.vert.now a.edge.now) a.points-1.now)
+    (counted_lists a.level.number (cage_of a.cage (tables a.twin.now a.vert.now a.edge.now)) a.creases.now a.cage.vertices k.count_creases.new.vert.1.1.1.1.0 (enough k) k.count_creases.ensures)

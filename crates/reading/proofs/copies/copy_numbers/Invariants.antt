@@ -1,0 +1,12 @@
+use Prim.Native.Nat.{◌-◌, ◌≤◌}
+use mathlib.Core.Path.{◌≡◌}
+use lib.ListN.{length}
+use Rattle.laws.specs.Below.{tabulate}
+use Rattle.laws.specs.Parts.{in_front}
+use Rattle.reading.proofs.copies.copy_numbers.Given as goal
+
+abbrev pub invariant-loop-halfedge : goal.invariant-loop-halfedge
+invariant-loop-halfedge l = (l.halfedge ≤ l.count) × (length l.table ≡ length l.initial.table) × (l.table ≡ in_front (tabulate l.halfedge (cell l.file l.at)) l.initial.table)
+
+abbrev pub decreases-loop-halfedge : goal.decreases-loop-halfedge
+decreases-loop-halfedge l = l.count - l.halfedge

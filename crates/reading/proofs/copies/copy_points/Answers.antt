@@ -1,0 +1,25 @@
+-- `copy_points` keeps the cells written so far in front of what the table held past them.
+use mir.Syntax.{w32}
+use mir.Facts.{to_z-of_z}
+use lib.IntN.{ℤ}
+use Rattle.cagefile.specs.Numbers.{u32_at, signed}
+use Prim.Native.Nat.{ℕ, ◌+◌, ◌*◌, ◌<◌}
+use mathlib.Core.Path.{◌≡◌, ◌∙◌}
+use mathlib.Core.List.{List}
+use native.Mathlib.Omega.{arith}
+use lib.ListN.{length, length-set}
+use Rattle.laws.proofs.Filling.{over_next}
+use Rattle.reading.proofs.copies.copy_points.Goals as goal
+
+abbrev cell : List ℕ → ℕ → ℕ → ℤ
+cell file at i = signed (u32_at file (at + 4 * i))
+
+pub loop-index-preserved : goal.loop-index-preserved
+loop-index-preserved c =
+    let h : c.loop-index.index < length c.loop-index.points = omega arith in
+    (omega arith, simp length-set c.loop-index.invariant.1, over_next _ _ (cell c.args.file.now c.args.at) _ _ h c.loop-index.invariant.2 (to_z-of_z {w = w32} (record { sfits = c.coordinate_at.type_inv }) ∙ c.coordinate_at.ensures))
+
+pub returns : goal.returns
+returns c =
+    let e : c.loop-index.index ≡ c.args.count = omega arith in
+    rw e at c.loop-index.invariant.2

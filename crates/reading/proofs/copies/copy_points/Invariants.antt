@@ -1,0 +1,12 @@
+use Prim.Native.Nat.{◌-◌, ◌≤◌}
+use mathlib.Core.Path.{◌≡◌}
+use lib.ListN.{length}
+use Rattle.laws.specs.Below.{tabulate}
+use Rattle.laws.specs.Parts.{in_front}
+use Rattle.reading.proofs.copies.copy_points.Given as goal
+
+abbrev pub invariant-loop-index : goal.invariant-loop-index
+invariant-loop-index l = (l.index ≤ l.count) × (length l.points ≡ length l.initial.points) × (l.points ≡ in_front (tabulate l.index (cell l.file l.at)) l.initial.points)
+
+abbrev pub decreases-loop-index : goal.decreases-loop-index
+decreases-loop-index l = l.count - l.index

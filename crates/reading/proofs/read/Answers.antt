@@ -1,0 +1,67 @@
+-- `read` gives `refusal`'s answer; where that is done it lets the copiers fill the lent tables.
+use Prim.Native.Nat.{ℕ}
+use mathlib.Core.Path.{◌≡◌, sym, ◌∙◌}
+use mathlib.Core.List.{List}
+use native.Mathlib.Omega.{arith}
+use Rattle.halfedges.specs.Refusals.{DONE}
+use Rattle.halfedges.proofs.Checks.{first_zero}
+use Rattle.tables.specs.Tables.{Tables, tables}
+use Rattle.reading.specs.Reading.{read_verdict}
+use Rattle.filechecks.specs.Internal.Sound.{Sound}
+use Rattle.reading.specs.Internal.Room.{RoomFor}
+use Rattle.filechecks.proofs.Sound.{sound_length}
+use Rattle.reading.proofs.Verdict.{read_sound, read_room}
+use Rattle.reading.proofs.Outcomes.{done_left, refused_left}
+use Rattle.reading.proofs.read.Goals as goal
+
+module _ (s : goal.Start) where
+  abbrev f : List ℕ
+  f = s.args.file.now
+
+  abbrev lent : Tables
+  lent = tables s.args.twin.now s.args.vert.now s.args.edge.now
+
+-- where the verdict is done
+module _ (c : goal.Else-number-ne0) where
+  abbrev start : goal.Start
+  start = c.before.before.before.before.before.before.before.before.before.before.before.before.before
+
+  done : read_verdict (f start) (lent start) start.args.points.now start.args.creases.now ≡ DONE
+  unfolding read_verdict
+  done = first_zero _ (rw c.refusal-answer.ensures at (sym c.number.ensures ∙ c.if-number-ne0.false))
+
+  sound : Sound (f start)
+  sound = read_sound _ _ _ _ done
+
+  room : RoomFor (f start) (lent start) start.args.points.now start.args.creases.now
+  room = read_room _ _ _ _ done
+
+-- where the tables were copied, once the points are about to be
+abbrev copied : goal.After-copy_rest-arg-2-1 → goal.After-copy_tables
+copied c = c.before.before.before.before.before.before.before.before
+
+pub returns-then-number-ne0 : goal.returns-then-number-ne0
+returns-then-number-ne0 c =
+    refused_left _ _ _ _ _ c.refusal-answer.ensures (λ z. c.if-number-ne0.true (c.number.ensures ∙ z)) _ c.refused.ensures
+
+pub copy_tables-requires : goal.copy_tables-requires
+copy_tables-requires c =
+    let d = c.before.before.before in
+    (omega (arith, sound_length _ (sound d)), (room d).twin, (room d).vert, (room d).edge)
+
+pub copy_rest-weight-requires : goal.copy_rest-weight-requires
+copy_rest-weight-requires c =
+    let d = (copied c).before.before.before.before in
+    (sound d, (room d).coordinates, (room d).creases)
+
+pub of-requires : goal.of-requires
+of-requires c = sound (copied c.before.before.before.before).before.before.before.before
+
+pub returns : goal.returns
+returns c =
+    let rest = c.before.before.before.before in
+    let tables-there = copied rest.before in
+    let t = tables-there.copy_tables.ensures in
+    let r = rest.copy_rest-weight.ensures in
+    done_left _ _ _ _ (done tables-there.before.before.before.before) _ _ c.of.ensures r.0 _ _ _
+    (λ i. tables (t.0 i) (t.1 i) (t.2 i)) r.1 r.2

@@ -1,0 +1,12 @@
+-- `ryebadger_write` puts the answer of writing in cells, which it fits, and leaves what that leaves.
+use mathlib.Core.Path.{sym, ap, subst, ◌∙◌}
+use Rattle.answers.specs.Cells.{length_cells}
+use Rattle.answers.specs.Internal.Fitting.{Fitting}
+use Rattle.answers.proofs.Files.{write_fits}
+use Rattle.ryebadger.proofs.ryebadger_write.Goals as goal
+
+pub of_writing-requires : goal.of_writing-requires
+of_writing-requires c = subst (λ s. Fitting (length_cells s)) (sym c.write-writing.ensures.0) (write_fits _ _ _)
+
+pub returns : goal.returns
+returns c = let r = c.write-writing.ensures in (c.of_writing.ensures ∙ ap length_cells r.0, r.1)

@@ -1,0 +1,29 @@
+-- `draw_part` asks the cage's edge whether it stays sharp.
+use Prim.Native.Nat.{◌/◌, ◌^◌}
+use mathlib.Core.Path.{◌≡◌, sym, ap, ◌∙◌}
+use lib.Dec.{ltb}
+use Rattle.halfedges.specs.Cage.{cell}
+use Rattle.seams.specs.Internal.Seams.{sharp_at}
+use Rattle.seams.proofs.Numbers.{part_below}
+use Rattle.seams.proofs.Seaming.{seam_drawn, seam_none}
+use Rattle.seams.proofs.seams.draw_part.Goals as goal
+
+module _ (a : goal.After-stays_sharp) where
+  abbrev s : goal.Start
+  s = a.before.before.before.before.before.before.before
+
+  sharp_is : sharp_at s.args.creases.now s.args.level (cell s.args.edge.now s.args.halfedge) ≡ a.stays_sharp.result
+  unfolding sharp_at
+  sharp_is = sym (a.stays_sharp.ensures ∙ ap (λ e. ltb s.args.level (cell s.args.creases.now (e / 2 ^ s.args.level))) a.wide.ensures)
+
+pub stays_sharp-requires : goal.stays_sharp-requires
+stays_sharp-requires c =
+    part_below c.args.creases.now c.args.level c.wide.result (rw c.wide.ensures c.requires.3)
+
+pub returns-then-stays_sharp : goal.returns-then-stays_sharp
+returns-then-stays_sharp c =
+    let t = c.before.before.before in
+    c.draw_at.ensures ∙ sym (seam_drawn _ _ _ _ _ _ _ _ _ (sharp_is t.before ∙ t.if-stays_sharp.true))
+
+pub returns-else-stays_sharp : goal.returns-else-stays_sharp
+returns-else-stays_sharp c = sym (seam_none _ _ _ _ _ _ _ _ _ (sharp_is c.before ∙ c.if-stays_sharp.false))

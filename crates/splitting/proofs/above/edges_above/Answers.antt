@@ -1,0 +1,91 @@
+-- `edges_above` goes through the corner triangles and then through the middle ones, whose rows say which halfedges are above their twins.
+use Prim.Native.Nat.{◌+◌, ◌*◌, ◌/◌, ◌≤◌, ◌<◌}
+use native.Mathlib.Omega.{arith}
+use Rattle.splitting.proofs.Triangles.{EdgesFilled, filled-start, filled_long, filled_three, edges_ready, edges_on, edges_done}
+use Rattle.splitting.proofs.Descent.{across_below, middle-above}
+use Rattle.splitting.proofs.above.edges_above.Goals as goal
+
+-- a turn of the first loop: where the function started, and the corner triangle that is there
+module _ (i : goal.In-loop-first) where
+  abbrev start : goal.Start
+  start = i.before.before.before.before
+
+  inside : i.loop-first.first < start.args.level.halfedges
+  inside = omega (arith, i.loop-first-test.true)
+
+  three : i.loop-first.first + 3 ≤ start.args.level.halfedges
+  three = (filled_three i.loop-first.invariant inside).0
+
+-- a turn of the second loop: its table, and the middle triangle
+module _ (i : goal.In-loop-first-2) where
+  abbrev start2 : goal.Start
+  start2 = i.before.before.before.before.before.before
+
+  so_far : EdgesFilled start2.args.level.halfedges start2.args.level.edges start2.args.at start2.args.edge.now start2.args.twin.now i.loop-first-2.edge i.loop-first-2.first
+  so_far = i.loop-first-2.invariant.1 _ i.loop-first.invariant
+
+  three2 : i.loop-first-2.first + 3 ≤ start2.args.level.halfedges
+  three2 = (filled_three so_far i.loop-first-2-test.true).0
+
+  past : 3 * (start2.args.level.halfedges / 4) ≤ i.loop-first-2.first
+  past = omega (arith, i.loop-first-test.false, i.loop-first-2.invariant.0)
+
+pub overflow_mul-corners : goal.overflow_mul-corners
+overflow_mul-corners c = omega (arith, c.requires.housed.0.small.halfedges)
+
+pub loop-first-init : goal.loop-first-init
+loop-first-init c = filled-start c.requires.housed.0
+
+pub above_at-a-requires : goal.above_at-a-requires
+above_at-a-requires c = omega (arith, three c, (start c).requires.housed.1.room)
+
+pub overflow_add-first : goal.overflow_add-first
+overflow_add-first c = let i = c.before in omega (arith, three i, (start i).requires.housed.0.small.halfedges)
+
+pub above_at-c-requires : goal.above_at-c-requires
+above_at-c-requires c = let i = c.before in omega (arith, three i, (start i).requires.housed.1.room)
+
+pub put_edges-requires : goal.put_edges-requires
+put_edges-requires c = let i = c.before.before.before in edges_ready (start i).requires.housed.1 i.loop-first.invariant (start i).requires.small_edges.0 (inside i)
+
+pub overflow_add-first-in-loop-first : goal.overflow_add-first-in-loop-first
+overflow_add-first-in-loop-first c = let i = c.before.before.before.before.before.before in omega (arith, three i, (start i).requires.housed.0.small.halfedges)
+
+pub loop-first-smaller : goal.loop-first-smaller
+loop-first-smaller c = omega (arith, c.loop-first-test.true)
+
+pub loop-first-preserved : goal.loop-first-preserved
+loop-first-preserved c =
+    let p = c.before.before in
+    let a = p.before.before in
+    let i = a.before.before in
+    let b = across_below (start i).requires.housed.1 (start i).requires.small_edges.1 _ i.loop-first.invariant.first i.loop-first-test.true in
+    edges_on (start i).requires.housed.1 i.loop-first.invariant (inside i) (λ j. (a.above_at-a.ensures j, b j, a.above_at-c.ensures j)) p.put_edges.ensures
+
+pub loop-first-2-init : goal.loop-first-2-init
+loop-first-2-init c = (omega arith, λ xs f. f)
+
+pub put_edges-requires-in-loop-first-2 : goal.put_edges-requires-in-loop-first-2
+put_edges-requires-in-loop-first-2 c = let i = c.before in edges_ready (start2 i).requires.housed.1 (so_far i) (start2 i).requires.small_edges.0 i.loop-first-2-test.true
+
+pub overflow_add-first-in-loop-first-2 : goal.overflow_add-first-in-loop-first-2
+overflow_add-first-in-loop-first-2 c = let i = c.before.before.before.before in omega (arith, three2 i, (start2 i).requires.housed.0.small.halfedges)
+
+pub loop-first-2-smaller : goal.loop-first-2-smaller
+loop-first-2-smaller c = let i = c.before.before.before.before in omega (arith, three2 i)
+
+pub loop-first-2-preserved : goal.loop-first-2-preserved
+loop-first-2-preserved c =
+    let p = c.before.before in
+    let i = p.before.before in
+    let up = middle-above (start2 i).requires.housed.1 (start2 i).requires.small_edges.1 in
+    let first = up _ (past i) i.loop-first-2-test.true in
+    let second = up (i.loop-first-2.first + 1) (omega (arith, past i)) (omega (arith, three2 i)) in
+    let third = up (i.loop-first-2.first + 2) (omega (arith, past i)) (omega (arith, three2 i)) in
+    (omega (arith, i.loop-first-2.invariant.0), λ xs f. edges_on (start2 i).requires.housed.1 (i.loop-first-2.invariant.1 xs f) i.loop-first-2-test.true (λ j. (first j, second j, third j)) p.put_edges-in-loop-first-2.ensures)
+
+pub shape_of-edge : goal.shape_of-edge
+shape_of-edge c = filled_long (c.loop-first-2.invariant.1 _ c.loop-first.invariant)
+
+pub returns : goal.returns
+returns c = edges_done c.requires.housed.1 (c.loop-first-2.invariant.1 _ c.loop-first.invariant) c.loop-first-2-test.false

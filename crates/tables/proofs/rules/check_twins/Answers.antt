@@ -1,0 +1,18 @@
+-- `check_twins` goes up to the first halfedge that is bad.
+use Rattle.tables.specs.Rules.{bad_twin}
+use Rattle.tables.proofs.Upto.{upto_none, upto_more, upto_found, upto_all}
+use Rattle.tables.proofs.rules.check_twins.Goals as goal
+
+pub loop-halfedge-init : goal.loop-halfedge-init
+loop-halfedge-init c = upto_none _ _
+
+pub returns-then-bad_twin : goal.returns-then-bad_twin
+returns-then-bad_twin c =
+    upto_found _ c.loop-halfedge.invariant c.loop-halfedge-test.true c.bad_twin.ensures c.if-bad_twin.true
+
+pub loop-halfedge-preserved : goal.loop-halfedge-preserved
+loop-halfedge-preserved c =
+    upto_more c.loop-halfedge.invariant c.loop-halfedge-test.true c.bad_twin.ensures c.if-bad_twin.false
+
+pub returns : goal.returns
+returns c = upto_all _ c.loop-halfedge.invariant c.loop-halfedge-test.false

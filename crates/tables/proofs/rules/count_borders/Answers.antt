@@ -1,0 +1,24 @@
+-- `count_borders` counts the halfedges that have no twin.
+use mathlib.Core.Path.{◌≡◌}
+use mathlib.Core.Logic.{⊎_elim}
+use native.Mathlib.Numerals.{add-one}
+use native.Mathlib.Omega.{arith}
+use lib.ListN.{length}
+use borrow.Author.Tests.{eq-eqb, ne_eqb}
+use Rattle.laws.proofs.Counts.{count_at_most}
+use Rattle.halfedges.specs.Cage.{border, B}
+use Rattle.tables.proofs.rules.count_borders.Goals as goal
+
+pub overflow_add-borders : goal.overflow_add-borders
+overflow_add-borders c = let i = c.loop-halfedge in omega (arith, i.invariant.0, count_at_most i.halfedge (border c.args.twin.now))
+
+pub loop-halfedge-preserved : goal.loop-halfedge-preserved
+loop-halfedge-preserved c =
+    let i = c.loop-halfedge in (
+      ⊎_elim (λ w. rw (add-one, eq-eqb _ _ w.0.taken) (omega (arith, w.1, i.invariant.0))) (λ w. rw (add-one, ne_eqb _ _ w.0.left) (omega (arith, w.1, i.invariant.0))) c.if-twin-halfedge.branch,
+      omega arith,
+    )
+
+pub returns : goal.returns
+unfolding B
+returns c = let e : c.loop-halfedge.halfedge ≡ length c.args.twin.now = omega arith in rw (← e) c.loop-halfedge.invariant.0

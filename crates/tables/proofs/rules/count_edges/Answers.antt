@@ -1,0 +1,25 @@
+-- `count_edges` counts the halfedges that are above their twins.
+use mathlib.Core.Path.{◌≡◌, sym, ◌∙◌}
+use mathlib.Core.Logic.{⊎_elim}
+use native.Mathlib.Numerals.{add-one}
+use native.Mathlib.Omega.{arith}
+use lib.ListN.{length}
+use Rattle.laws.proofs.Counts.{count_at_most}
+use Rattle.halfedges.specs.Cage.{above, E}
+use Rattle.tables.proofs.rules.count_edges.Goals as goal
+
+pub overflow_add-edges : goal.overflow_add-edges
+overflow_add-edges c = let i = c.loop-halfedge in omega (arith, i.invariant.0, count_at_most i.halfedge (above c.args.twin.now))
+
+pub loop-halfedge-preserved : goal.loop-halfedge-preserved
+unfolding above
+loop-halfedge-preserved c =
+    let i = c.loop-halfedge in
+    let e = c.is_above.ensures in (
+      ⊎_elim (λ w. let t = sym e ∙ w.0.taken in rw (add-one, t) (omega (arith, w.1, i.invariant.0))) (λ w. let t = sym e ∙ w.0.left in rw (add-one, t) (omega (arith, w.1, i.invariant.0))) c.if-is_above.branch,
+      omega arith,
+    )
+
+pub returns : goal.returns
+unfolding E
+returns c = let e : c.loop-halfedge.halfedge ≡ length c.args.twin.now = omega arith in rw (← e) c.loop-halfedge.invariant.0

@@ -1,0 +1,18 @@
+-- `put_edge` stores one number, by whether the halfedge is its edge's lowest.
+use mathlib.Core.Path.{◌≡◌, refl}
+use mathlib.Core.Bool.{true, false}
+use native.Mathlib.Omega.{arith}
+use Rattle.triangles.specs.Plain.{is_lowest}
+use Rattle.triangles.proofs.Numbering.{is_lowest_lem, not_lowest}
+use Rattle.triangles.proofs.edges.put_edge.Goals as goal
+
+pub returns-then-halfedge-other : goal.returns-then-halfedge-other
+returns-then-halfedge-other c =
+    let e : is_lowest c.args.twin.now c.args.halfedge ≡ true = is_lowest_lem _ _ (omega (arith, c.if-halfedge-other.true, c.wide-other.ensures)) in
+    (rw e refl, rw e refl)
+
+pub returns : goal.returns
+returns c =
+    let w = c.wide-other.ensures in
+    let e : is_lowest c.args.twin.now c.args.halfedge ≡ false = not_lowest _ _ (omega (arith, c.requires.halfedge_lt_most_halfedges.0)) (omega (arith, c.if-halfedge-other.false, w)) in
+    (rw e (omega arith), rw (e, w) refl)

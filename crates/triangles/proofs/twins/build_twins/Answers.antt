@@ -1,0 +1,65 @@
+-- `build_twins` takes small corner numbers as they are, and others narrowed.
+use Prim.Native.Nat.{ℕ, ◌%◌, ◌≤◌, ◌<◌}
+use mathlib.Core.Path.{◌≡◌, sym, ap, ap₂, ◌∙◌}
+use mathlib.Core.List.{List}
+use native.Mathlib.Omega.{arith}
+use lib.Dec.{eqb}
+use lib.ListN.{length, take}
+use lib.Seq.{length-take-le, get_or-take}
+use Rattle.laws.specs.Parts.{in_front}
+use Rattle.alike.specs.Internal.Narrowed.{Small}
+use Rattle.halfedges.specs.Cage.{cell}
+use Rattle.triangles.specs.Internal.Joining.{Whole}
+use Rattle.triangles.proofs.Renumbered.{doubled_same, twins_same}
+use Rattle.triangles.proofs.twins.build_twins.Goals as goal
+
+-- once the corners are narrowed: small numbers that are the same where they are
+module _ (c : goal.After-narrow) where
+  abbrev start : goal.Start
+  start = c.before.before.before.before.before.before
+
+  abbrev vert : List ℕ
+  vert = start.args.vert.now
+
+  abbrev corners : List ℕ
+  corners = take (length vert) c.narrow.new.small
+
+  room : length vert ≤ length c.narrow.new.small
+  room = omega (arith, c.narrow.auto.small, start.requires.0.few)
+
+  long : length corners ≡ length vert
+  long = length-take-le (length vert) c.narrow.new.small room
+
+  corner : (h : ℕ) → h < length vert → cell corners h ≡ cell c.narrow.new.small h
+  corner h l = get_or-take (length vert) c.narrow.new.small h 0 l
+
+  whole : Whole corners
+  whole = record { whole = by_three long; few = omega (arith, long, start.requires.0.few) }
+    where
+      by_three : {n : ℕ} → n ≡ length vert → n % 3 ≡ 0
+      by_three e = rw e start.requires.0.whole
+
+  small : Small corners
+  small = record { each = λ h l. let m : h < length vert = omega (arith, long) in rw (corner h m) (c.narrow.ensures.below h m) }
+
+  same : (g h : ℕ) → g < length vert → h < length vert → eqb (cell corners g) (cell corners h) ≡ eqb (cell vert g) (cell vert h)
+  same g h m l = ap₂ eqb (corner g m) (corner h l) ∙ c.narrow.ensures.same g h m l
+
+pub join-requires : goal.join-requires
+join-requires c = (c.requires.0, c.are_small.ensures c.if-are_small.true, c.requires.1)
+
+pub slice_bounds-join-end : goal.slice_bounds-join-end
+slice_bounds-join-end c = sym (long c.before.before)
+
+pub join-requires-2 : goal.join-requires-2
+join-requires-2 c = let n = c.before.before.before in (whole n, small n, omega (arith, long n, (start n).requires.1))
+
+pub returns : goal.returns
+returns c =
+    let j = c.before.before in
+    let n = j.before.before.before.before in
+    let w = (start n).requires.0 in
+    record {
+      first = j.join-2.ensures.first ∙ doubled_same (vert n) (corners n) w (long n) (same n);
+      twins = λ l. j.join-2.ensures.twins (omega (arith, l, long n)) ∙ ap (λ t. in_front t (start n).args.twin.now) (twins_same (vert n) (corners n) w (long n) (same n));
+    }

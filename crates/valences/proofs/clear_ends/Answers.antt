@@ -1,0 +1,56 @@
+-- `clear_ends` leaves the tally where the halfedge has a twin, and else clears its two ends.
+use Prim.Native.Nat.{◌<◌}
+use mathlib.Core.Path.{ap, ◌∙◌}
+use native.Mathlib.Omega.{arith}
+use lib.ListN.{length, length-set}
+use borrow.Author.Tests.{eq-eqb, ne_eqb}
+use Rattle.halfedges.specs.Cage.{cell}
+use Rattle.halfedges.proofs.Triangle.{next_below}
+use Rattle.valences.proofs.Counted.{twin_kept, ends_cleared}
+use Rattle.valences.proofs.clear_ends.Goals as goal
+
+-- the next halfedge is one of the table's
+module _ (c : goal.After-next) where
+  abbrev start : goal.Start
+  start = c.before.before.before.before.before.before.before.before
+
+  next_in : c.next.result < length start.args.vert.now
+  next_in = omega (arith, c.next.ensures, next_below start.requires.0.whole start.requires.1)
+
+-- both ends have a cell
+module _ (c : goal.After-wide-to) where
+  abbrev n : goal.After-next
+  n = c.before.before
+
+  from_in : n.wide-from.result < length (start n).args.corners.now
+  from_in = omega (arith, n.wide-from.ensures, (start n).requires.0.below _ (start n).requires.1)
+
+  to_in : c.wide-to.result < length (start n).args.corners.now
+  to_in = omega (arith, c.wide-to.ensures, (start n).requires.0.below _ (next_in n))
+
+pub returns-then-twin-halfedge : goal.returns-then-twin-halfedge
+returns-then-twin-halfedge c = twin_kept _ _ _ _ (ne_eqb _ _ c.if-twin-halfedge.true)
+
+pub offset_bounds-vert-next : goal.offset_bounds-vert-next
+offset_bounds-vert-next c = omega (arith, next_in c)
+
+pub bounds-vert-next : goal.bounds-vert-next
+bounds-vert-next c = next_in c.before
+
+pub offset_bounds-corners-from : goal.offset_bounds-corners-from
+offset_bounds-corners-from c = omega (arith, from_in c)
+
+pub bounds-corners-from : goal.bounds-corners-from
+bounds-corners-from c = from_in c
+
+pub offset_bounds-corners-to : goal.offset_bounds-corners-to
+offset_bounds-corners-to c = omega (arith, to_in c)
+
+pub bounds-corners-to : goal.bounds-corners-to
+bounds-corners-to c = simp length-set (to_in c)
+
+pub returns : goal.returns
+returns c =
+    let k = c.before.before in
+    let s = start k in
+    ends_cleared s.args.twin.now s.args.vert.now s.args.halfedge s.args.corners.now k.wide-from.ensures (c.wide-to.ensures ∙ ap (cell s.args.vert.now) k.next.ensures) (eq-eqb _ _ k.if-twin-halfedge.false) (from_in c) (to_in c)

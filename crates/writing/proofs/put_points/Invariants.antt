@@ -1,0 +1,12 @@
+use Prim.Native.Nat.{◌-◌, ◌≤◌}
+use mathlib.Core.Path.{◌≡◌}
+use mathlib.Core.List.{flat_map}
+use lib.ListN.{length, take}
+use Rattle.laws.specs.Parts.{in_front}
+use Rattle.writing.proofs.put_points.Given as goal
+
+abbrev pub invariant-loop-index : goal.invariant-loop-index
+invariant-loop-index l = (l.index ≤ length l.points) × (length l.part ≡ length l.initial.part) × (l.part ≡ in_front (flat_map put (take l.index l.points)) l.initial.part)
+
+abbrev pub decreases-loop-index : goal.decreases-loop-index
+decreases-loop-index l = length l.points - l.index
