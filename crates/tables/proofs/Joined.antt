@@ -5,7 +5,7 @@
 use Prim.Native.Nat.{ℕ, zero, suc, ◌+◌, ◌-◌, ◌%◌, ◌≤◌, ◌<◌}
 use mathlib.Core.Path.{◌≡◌, refl, sym, ap, subst, ◌∙◌}
 use mathlib.Core.Logic.{◌≢◌}
-use mathlib.Core.Bool.{true, or_true, ◌||◌, true≢false}
+use mathlib.Core.Bool.{true, or-true, ◌||◌, true≢false}
 use mathlib.Core.List.{List}
 use native.Mathlib.Decide.{ℕ_discrete}
 use native.Mathlib.Nat.{not-suc-le-zero}
@@ -63,7 +63,7 @@ module _ (twin : List ℕ) where
   run_met zero (suc k) g h b r = absurd (not-suc-le-zero b)
   run_met (suc n) zero g h b r = rw (eq-eqb g h r.ends)
   run_met (suc n) (suc k) g h b r =
-      rw (ne_eqb (link twin g) marker (r.goes 0 (omega arith)), run_met n k (link twin g) h (omega arith) (rest g h k r)) (or_true (eqb g h))
+      rw (ne_eqb (link twin g) marker (r.goes 0 (omega arith)), run_met n k (link twin g) h (omega arith) (rest g h k r)) (or-true (eqb g h))
 
   met_run : (n g h : ℕ) → met twin n g h ≡ true → (k : ℕ) × Run twin g h k
   unfolding met
@@ -151,7 +151,7 @@ module _ (twin : List ℕ) (whole : length twin % 3 ≡ 0) (p : Paired twin) whe
       by (ahead n r) = let s = shortest g h n lg r in rw (run_met twin (length twin) s.0 g h (omega (arith, s.1)) s.2)
       by (behind n r) =
           let s = shortest h g n lh r in
-          rw (run_met twin (length twin) s.0 h g (omega (arith, s.1)) s.2) (or_true (met twin (length twin) g h))
+          rw (run_met twin (length twin) s.0 h g (omega (arith, s.1)) s.2) (or-true (met twin (length twin) g h))
 
   run_joined : (g h n : ℕ) → g < length twin → Run twin g h n → Joined twin g h
   unfolding walk

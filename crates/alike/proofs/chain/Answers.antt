@@ -7,9 +7,10 @@ use lib.ListN.{length, length-set, get_or}
 use Rattle.alike.specs.Internal.Alike.{bound}
 use Rattle.alike.proofs.Chains.{chained_none, chained_on}
 use Rattle.alike.proofs.chain.Goals as goal
+use Rattle.alike.proofs.chain.Goals.{In-loop-item}
 
 -- the group that is read, and that it is there
-module _ (c : goal.In-loop-item) where
+module _ (c : In-loop-item) where
   abbrev group : ℕ
   group = get_or c.args.groups.now c.loop-item.item 0
 
@@ -23,24 +24,24 @@ pub loop-item-init : goal.loop-item-init
 loop-item-init c = (search rules, search rules, search rules, chained_none _ _ _ c.requires.by_index)
 
 pub overflow_cast-group : goal.overflow_cast-group
-overflow_cast-group c = omega (arith, small c.before)
+overflow_cast-group c = omega (arith, small (goal.at.overflow_cast-group c).In-loop-item)
 
 pub offset_bounds-heads-group : goal.offset_bounds-heads-group
-offset_bounds-heads-group c = omega (arith, small c.before)
+offset_bounds-heads-group c = omega (arith, small (goal.at.offset_bounds-heads-group c).In-loop-item)
 
 pub bounds-heads-group : goal.bounds-heads-group
-bounds-heads-group c = inside c.before.before
+bounds-heads-group c = inside (goal.at.bounds-heads-group c).In-loop-item
 
 pub offset_bounds-heads-group-in-loop-item : goal.offset_bounds-heads-group-in-loop-item
-offset_bounds-heads-group-in-loop-item c = omega (arith, small c.before.before)
+offset_bounds-heads-group-in-loop-item c = omega (arith, small (goal.at.offset_bounds-heads-group-in-loop-item c).In-loop-item)
 
 pub bounds-heads-group-in-loop-item : goal.bounds-heads-group-in-loop-item
-bounds-heads-group-in-loop-item c = inside c.before.before
+bounds-heads-group-in-loop-item c = inside (goal.at.bounds-heads-group-in-loop-item c).In-loop-item
 
 pub loop-item-preserved : goal.loop-item-preserved
 loop-item-preserved c =
     let i = c.loop-item in
-    (simp length-set i.invariant.0, simp length-set i.invariant.1, omega arith, chained_on _ _ _ _ (inside c.before.before) (omega arith) i.invariant.3)
+    (simp length-set i.invariant.0, simp length-set i.invariant.1, omega arith, chained_on _ _ _ _ (inside (goal.at.loop-item-preserved c).In-loop-item) (omega arith) i.invariant.3)
 
 pub shape_of-heads : goal.shape_of-heads
 shape_of-heads c = c.loop-item.invariant.0

@@ -4,4 +4,4 @@ use lib.ListN.{get_or-replicate}
 use Rattle.alike.proofs.find_firsts.Goals as goal
 
 pub chain-requires : goal.chain-requires
-chain-requires c = ((c.requires.0, refl, c.requires.0.few), λ g l. get_or-replicate 4096 g 0 0 l)
+chain-requires c = record { keyed = (c.requires.0, refl, c.requires.0.few); by_index = λ g l. get_or-replicate 4096 g 0 0 l }

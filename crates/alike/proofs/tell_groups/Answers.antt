@@ -8,11 +8,12 @@ use Rattle.alike.specs.Internal.Alike.{Chain}
 use Rattle.alike.proofs.Chains.{chain_of, head_below}
 use Rattle.alike.proofs.Walks.{groups_on}
 use Rattle.alike.proofs.tell_groups.Goals as goal
+use Rattle.alike.proofs.tell_groups.Goals.{At-loop-group, In-loop-group, Start}
 
 -- a turn: where the function started, and the chain that is followed
-module _ (i : goal.In-loop-group) where
-  abbrev start : goal.Start
-  start = i.before.before.before.before.before.before.before.before
+module _ (i : In-loop-group) where
+  abbrev start : Start
+  start = (goal.at.In-loop-group i).Start
 
   followed : Chain start.args.groups.now start.args.labels.now start.args.before.now i.loop-group.group (get_or start.args.heads.now i.loop-group.group 0)
   followed = chain_of start.requires.ready i.loop-group.group i.loop-group-test.true
@@ -21,18 +22,14 @@ pub loop-group-init : goal.loop-group-init
 loop-group-init c = (search rules, search rules, search rules, record { each = λ k l b. absurd (not-suc-le-zero b) })
 
 pub overflow_cast-head : goal.overflow_cast-head
-overflow_cast-head c = let i = c.before in omega (arith, head_below (followed i), (start i).requires.ready.keyed.few)
+overflow_cast-head c = omega (arith, head_below (followed (goal.at.overflow_cast-head c).In-loop-group), (start (goal.at.overflow_cast-head c).In-loop-group).requires.ready.keyed.few)
 
 pub mark-requires : goal.mark-requires
-mark-requires c = let i = c.before.before in (followed i, omega (arith, (start i).requires.bound_in_bounds.0, i.loop-group.invariant.0))
+mark-requires c = (followed (goal.at.mark-requires c).In-loop-group, omega (arith, (start (goal.at.mark-requires c).In-loop-group).requires.bound_in_bounds.0, c.loop-group.invariant.0))
 
 pub tell-requires : goal.tell-requires
 tell-requires c =
-    let m = c.before.before.before.before in
-    let i = m.before.before.before in (
-      (followed i, m.mark.ensures),
-      (omega (arith, m.mark.auto.labels.1.1.1.1.0, (start i).requires.bound_in_bounds.0, i.loop-group.invariant.0), omega (arith, (start i).requires.bound_in_bounds.1, i.loop-group.invariant.1)),
-    )
+    record { chain = (followed (goal.at.tell-requires c).At-loop-group, c.mark.ensures); bound_in_bounds = (omega (arith, c.mark.auto.marks, (start (goal.at.tell-requires c).At-loop-group).requires.bound_in_bounds.0, c.loop-group.invariant.0), omega (arith, (start (goal.at.tell-requires c).At-loop-group).requires.bound_in_bounds.1, c.loop-group.invariant.1)) }
 
 pub overflow_add-group : goal.overflow_add-group
 overflow_add-group c = omega (arith, c.loop-group.invariant.2)
@@ -42,14 +39,11 @@ loop-group-smaller c = omega (arith, c.loop-group-test.true)
 
 pub loop-group-preserved : goal.loop-group-preserved
 loop-group-preserved c =
-    let t = c.before.before in
-    let m = t.before.before.before.before.before in
-    let i = m.before.before.before in
-    let v = i.loop-group.invariant in (
-      m.mark.auto.labels.1.1.1.1.0 ∙ v.0,
-      t.tell.auto.labels.1.1.1.1.1.0 ∙ v.1,
-      omega (arith, i.loop-group-test.true, (start i).requires.ready.buckets),
-      groups_on _ _ _ _ _ t.tell.ensures v.3,
+    let v = c.loop-group.invariant in (
+      c.mark.auto.marks ∙ v.0,
+      c.tell.auto.first ∙ v.1,
+      omega (arith, c.loop-group-test.true, (start (goal.at.loop-group-preserved c).At-loop-group).requires.ready.buckets),
+      groups_on _ _ _ _ _ c.tell.ensures v.3,
     )
 
 pub shape_of-marks : goal.shape_of-marks

@@ -10,22 +10,23 @@ use Rattle.building.specs.Building.{build_verdict}
 use Rattle.building.proofs.Built.{in_front_lem}
 use Rattle.building.proofs.Outcome.{limits, writable, build_done, told_done, build_refused}
 use Rattle.building.proofs.build_with.Goals as goal
+use Rattle.building.proofs.build_with.Goals.{After-number, After-plan-answer, Else-number-ne0, Start}
 
 -- where the plan is done
-module _ (i : goal.Else-number-ne0) where
-  abbrev plan : goal.After-plan-answer
-  plan = i.before.before.before.before
+module _ (i : Else-number-ne0) where
+  abbrev plan : After-plan-answer
+  plan = (goal.at.Else-number-ne0 i).After-plan-answer
 
-  abbrev start : goal.Start
+  abbrev start : Start
   start = plan.before.before.before.before.before.before.before.before
 
   done : build_verdict start.args.vert.now start.args.points.now start.args.twin.now start.args.edge.now ≡ DONE
   done = told_done _ _ _ _ plan.plan-answer.result plan.plan-answer.ensures.result_value i.number.ensures i.if-number-ne0.false
 
-  fits : length start.args.vert.now ≤ length plan.plan-answer.last.0
+  fits : length start.args.vert.now ≤ length plan.plan-answer.new.twins
   fits = omega (arith, (limits _ _ _ _ done).0, start.requires, plan.plan-answer.kept.0)
 
-  built : take (length start.args.vert.now) plan.plan-answer.last.0 ≡ twin_table start.args.vert.now
+  built : take (length start.args.vert.now) plan.plan-answer.new.twins ≡ twin_table start.args.vert.now
   built = in_front_lem start.args.vert.now start.args.twins.now (plan.plan-answer.ensures.twins_after (sym i.number.ensures ∙ i.if-number-ne0.false))
 
 pub returns-then-number-ne0 : goal.returns-then-number-ne0
@@ -36,14 +37,12 @@ pub slice_bounds-write_built-end : goal.slice_bounds-write_built-end
 slice_bounds-write_built-end c = fits c
 
 pub slice_bounds-write_built-end-2 : goal.slice_bounds-write_built-end-2
-slice_bounds-write_built-end-2 c = sym (length-take-le _ _ (fits c.before))
+slice_bounds-write_built-end-2 c = sym (length-take-le _ _ (fits (goal.at.slice_bounds-write_built-end-2 c).After-number))
 
 pub write_built-requires : goal.write_built-requires
-write_built-requires c = let i = c.before.before.before in writable _ _ _ _ (done i) (built i)
+write_built-requires c = writable _ _ _ _ (done (goal.at.write_built-requires c).After-number) (built (goal.at.write_built-requires c).After-number)
 
 pub returns : goal.returns
 returns c =
-    let w = c.before.before.before.before in
-    let i = w.before.before.before.before in
-    let e = w.write_built.ensures in
-    build_done _ _ _ _ (done i) (built i) e.0 e.1.0 e.1.1
+    let e = c.write_built.ensures in
+    build_done _ _ _ _ (done (goal.at.returns c).After-number) (built (goal.at.returns c).After-number) e.0 e.1.0 e.1.1

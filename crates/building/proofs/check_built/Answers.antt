@@ -10,15 +10,16 @@ use Rattle.building.specs.Building.{build_checks}
 use Rattle.building.specs.Internal.Relied.{built_checks}
 use Rattle.building.proofs.Built.{for_vertices, for_fans, vertex_told, fan_told}
 use Rattle.building.proofs.check_built.Goals as goal
+use Rattle.building.proofs.check_built.Goals.{Else-number-ne0, Else-number-ne0-2, Start}
 
 -- what 4 and 5 leave where they are passed
-abbrev start : goal.Else-number-ne0 → goal.Start
+abbrev start : Else-number-ne0 → Start
 start i = i.before.before.before.before.before
 
-places : (i : goal.Else-number-ne0) → Placed (start i).args.twin.now (start i).args.vert.now (vertices (start i).args.points.now)
+places : (i : Else-number-ne0) → Placed (start i).args.twin.now (start i).args.vert.now (vertices (start i).args.points.now)
 places i = placed _ _ _ (passed_clean _ _ VERTEX (λ k. omega arith) (number_zero i.check_vertices-places.ensures i.number.ensures i.if-number-ne0.false))
 
-uses : (i : goal.Else-number-ne0-2) → Used (start i.before.before.before).args.vert.now (vertices (start i.before.before.before).args.points.now)
+uses : (i : Else-number-ne0-2) → Used (start (goal.at.Else-number-ne0-2 i).Else-number-ne0).args.vert.now (vertices (start (goal.at.Else-number-ne0-2 i).Else-number-ne0).args.points.now)
 uses i = used _ _ (passed_clean _ _ UNUSED (λ k. omega arith) (number_zero i.check_uses-uses.ensures i.number-2.ensures i.if-number-ne0-2.false))
 
 pub check_vertices-places-requires : goal.check_vertices-places-requires
@@ -31,30 +32,24 @@ returns-then-number-ne0 c = answered (vertex_told c.requires c.check_vertices-pl
 pub returns-then-number-ne0-2 : goal.returns-then-number-ne0-2
 unfolding built_checks build_checks
 returns-then-number-ne0-2 c =
-    let four = c.before.before.before in
     answered c.check_uses-uses.ensures c.number-2.ensures _ c.if-number-ne0-2.true
-    ∙ passed_on (vertex_told (start four).requires four.check_vertices-places.ensures) four.number.ensures _ four.if-number-ne0.false
+    ∙ passed_on (vertex_told (start (goal.at.returns-then-number-ne0-2 c).Else-number-ne0).requires c.check_vertices-places.ensures) c.number.ensures _ c.if-number-ne0.false
 
 pub check_fans-fans-requires : goal.check_fans-fans-requires
-check_fans-fans-requires c = let four = c.before.before.before in (for_fans (start four).requires (places four) (uses c), (start four).requires.few)
+check_fans-fans-requires c = (for_fans (start (goal.at.check_fans-fans-requires c).Else-number-ne0).requires (places (goal.at.check_fans-fans-requires c).Else-number-ne0) (uses c), (start (goal.at.check_fans-fans-requires c).Else-number-ne0).requires.few)
 
 pub returns-then-number-ne0-3 : goal.returns-then-number-ne0-3
 unfolding built_checks build_checks
 returns-then-number-ne0-3 c =
-    let five = c.before.before.before in
-    let four = five.before.before.before in
-    answered (fan_told (start four).requires c.check_fans-fans.ensures) c.number-3.ensures _ c.if-number-ne0-3.true
-    ∙ passed_on five.check_uses-uses.ensures five.number-2.ensures _ five.if-number-ne0-2.false
-    ∙ passed_on (vertex_told (start four).requires four.check_vertices-places.ensures) four.number.ensures _ four.if-number-ne0.false
+    answered (fan_told (start (goal.at.returns-then-number-ne0-3 c).Else-number-ne0).requires c.check_fans-fans.ensures) c.number-3.ensures _ c.if-number-ne0-3.true
+    ∙ passed_on c.check_uses-uses.ensures c.number-2.ensures _ c.if-number-ne0-2.false
+    ∙ passed_on (vertex_told (start (goal.at.returns-then-number-ne0-3 c).Else-number-ne0).requires c.check_vertices-places.ensures) c.number.ensures _ c.if-number-ne0.false
 
 pub returns : goal.returns
 unfolding built_checks build_checks
 returns c =
-    let seven = c.before in
-    let five = seven.before.before.before in
-    let four = five.before.before.before in
     c.check_points.ensures
     ∙ given_alone _ _ POINT (λ k. omega arith)
-    ∙ passed_on (fan_told (start four).requires seven.check_fans-fans.ensures) seven.number-3.ensures _ seven.if-number-ne0-3.false
-    ∙ passed_on five.check_uses-uses.ensures five.number-2.ensures _ five.if-number-ne0-2.false
-    ∙ passed_on (vertex_told (start four).requires four.check_vertices-places.ensures) four.number.ensures _ four.if-number-ne0.false
+    ∙ passed_on (fan_told (start (goal.at.returns c).Else-number-ne0).requires c.check_fans-fans.ensures) c.number-3.ensures _ c.if-number-ne0-3.false
+    ∙ passed_on c.check_uses-uses.ensures c.number-2.ensures _ c.if-number-ne0-2.false
+    ∙ passed_on (vertex_told (start (goal.at.returns c).Else-number-ne0).requires c.check_vertices-places.ensures) c.number.ensures _ c.if-number-ne0.false

@@ -10,11 +10,12 @@ use Rattle.points.specs.Operations.{vertices, unshaped}
 use Rattle.building.proofs.Given.{shape_given, limit_given, whole, doubled-given, twinned, checks_left}
 use Rattle.building.proofs.Built.{in_front_lem}
 use Rattle.building.proofs.check_plain.Goals as goal
+use Rattle.building.proofs.check_plain.Goals.{After-above_limit, After-build_twins-arg-1, After-build_twins-place, Else-above_limit, Start}
 
 -- where 1 and 2 are passed
-module _ (i : goal.Else-above_limit) where
-  abbrev start : goal.Start
-  start = i.before.before.before.before.before.before
+module _ (i : Else-above_limit) where
+  abbrev start : Start
+  start = (goal.at.Else-above_limit i).Start
 
   shape : unshaped start.args.vert.now start.args.points.now ≡ false
   shape = sym i.unshaped.ensures ∙ i.if-unshaped.false
@@ -23,46 +24,39 @@ module _ (i : goal.Else-above_limit) where
   limit = sym i.above_limit.ensures ∙ i.if-above_limit.false
 
 -- the table has a cell for each halfedge
-fits : (b : goal.After-build_twins-place) → length (start b.before.before).args.vert.now ≤ length b.build_twins-place.new.twin
-fits b = let i = b.before.before in omega (arith, (whole _ _ (shape i) (limit i)).few, (start i).requires, b.build_twins-place.auto.twin)
+fits : (b : After-build_twins-place) → length (start (goal.at.After-build_twins-place b).Else-above_limit).args.vert.now ≤ length b.build_twins-place.new.twin
+fits b = omega (arith, (whole _ _ (shape (goal.at.After-build_twins-place b).Else-above_limit) (limit (goal.at.After-build_twins-place b).Else-above_limit)).few, (start (goal.at.After-build_twins-place b).Else-above_limit).requires, b.build_twins-place.auto.twin)
 
 pub returns-then-unshaped : goal.returns-then-unshaped
-returns-then-unshaped c = (shape_given _ _ (sym c.unshaped.ensures ∙ c.if-unshaped.true), λ z. absurd (omega (arith, z)))
+returns-then-unshaped c = record { result_value = shape_given _ _ (sym c.unshaped.ensures ∙ c.if-unshaped.true); twins_after = λ z. absurd (omega (arith, z)) }
 
 pub returns-then-above_limit : goal.returns-then-above_limit
 returns-then-above_limit c =
-    (limit_given _ _ (sym c.unshaped.ensures ∙ c.if-unshaped.false) (sym c.above_limit.ensures ∙ c.if-above_limit.true), λ z. absurd (omega (arith, z)))
+    record { result_value = limit_given _ _ (sym c.unshaped.ensures ∙ c.if-unshaped.false) (sym c.above_limit.ensures ∙ c.if-above_limit.true); twins_after = λ z. absurd (omega (arith, z)) }
 
 pub build_twins-place-requires : goal.build_twins-place-requires
 build_twins-place-requires c =
-    let i = c.before in
-    let w = whole _ _ (shape i) (limit i) in
-    (w, omega (arith, w.few, (start i).requires))
+    let w = whole _ _ (shape (goal.at.build_twins-place-requires c).Else-above_limit) (limit (goal.at.build_twins-place-requires c).Else-above_limit) in
+    (w, omega (arith, w.few, (start (goal.at.build_twins-place-requires c).Else-above_limit).requires))
 
 pub returns-then-place-vert : goal.returns-then-place-vert
 returns-then-place-vert c =
-    let b = c.before.before.before in
-    let i = b.before.before in
-    (doubled-given _ _ (shape i) (limit i) b.build_twins-place.ensures.first c.if-place-vert.true, λ z. absurd (omega (arith, z)))
+    record { result_value = doubled-given _ _ (shape (goal.at.returns-then-place-vert c).Else-above_limit) (limit (goal.at.returns-then-place-vert c).Else-above_limit) c.build_twins-place.ensures.first c.if-place-vert.true; twins_after = λ z. absurd (omega (arith, z)) }
 
 pub slice_bounds-check_built-end : goal.slice_bounds-check_built-end
-slice_bounds-check_built-end c = fits c.before.before.before
+slice_bounds-check_built-end c = fits (goal.at.slice_bounds-check_built-end c).After-build_twins-place
 
 pub slice_bounds-check_built-end-2 : goal.slice_bounds-check_built-end-2
-slice_bounds-check_built-end-2 c = sym (length-take-le _ _ (fits c.before.before.before.before))
+slice_bounds-check_built-end-2 c = sym (length-take-le _ _ (fits (goal.at.slice_bounds-check_built-end-2 c).After-build_twins-arg-1))
 
 pub check_built-requires : goal.check_built-requires
 check_built-requires c =
-    let b = c.before.before.before.before in
-    let i = b.before.before in
-    let e = b.build_twins-place.ensures in
+    let e = c.build_twins-place.ensures in
     let past = c.if-place-vert.false in
-    twinned _ _ (shape i) (limit i) e.first past (in_front_lem (start i).args.vert.now (start i).args.twins.now (e.twins past))
+    twinned _ _ (shape (goal.at.check_built-requires c).After-above_limit) (limit (goal.at.check_built-requires c).After-above_limit) e.first past (in_front_lem (start (goal.at.check_built-requires c).After-above_limit).args.vert.now (start (goal.at.check_built-requires c).After-above_limit).args.twins.now (e.twins past))
 
 pub returns : goal.returns
 returns c =
-    let b = c.before.before.before.before.before in
-    let i = b.before.before in
-    let e = b.build_twins-place.ensures in
+    let e = c.build_twins-place.ensures in
     let past = c.if-place-vert.false in
-    (c.check_built.ensures ∙ checks_left _ _ (shape i) (limit i) e.first past, λ _. e.twins past)
+    record { result_value = c.check_built.ensures ∙ checks_left _ _ (shape (goal.at.returns c).After-above_limit) (limit (goal.at.returns c).After-above_limit) e.first past; twins_after = λ _. e.twins past }

@@ -5,9 +5,10 @@ use Rattle.halfedges.proofs.Told.{zero_done}
 use Rattle.creases.proofs.Accepted.{plain_done}
 use Rattle.cage.proofs.CageChecks.{for_valences, refine_shape, creased_refused, valence_refused, refine_points}
 use Rattle.cage.proofs.check_for_refining.Goals as goal
+use Rattle.cage.proofs.check_for_refining.Goals.{Else-number-ne0}
 
 -- 1 to 7 are passed
-passed : (i : goal.Else-number-ne0) → (told i.check_for_depth-answer.result).number ≡ 0
+passed : (i : Else-number-ne0) → (told i.check_for_depth-answer.result).number ≡ 0
 passed i = sym i.number.ensures ∙ i.if-number-ne0.false
 
 pub returns-then-points-ne0 : goal.returns-then-points-ne0
@@ -23,12 +24,9 @@ check_valences-valence-requires c =
 
 pub returns-then-number-ne0-2 : goal.returns-then-number-ne0-2
 returns-then-number-ne0-2 c =
-    let v = c.before.before in
-    valence_refused _ _ _ _ _ v.if-points-ne0.false (told v.check_for_depth-answer.result) v.check_for_depth-answer.ensures (passed v.before) (told v.check_valences-valence.result) v.check_valences-valence.ensures (λ z. c.if-number-ne0-2.true (c.number-2.ensures ∙ z))
+    valence_refused _ _ _ _ _ c.if-points-ne0.false (told c.check_for_depth-answer.result) c.check_for_depth-answer.ensures (passed (goal.at.returns-then-number-ne0-2 c).Else-number-ne0) (told c.check_valences-valence.result) c.check_valences-valence.ensures (λ z. c.if-number-ne0-2.true (c.number-2.ensures ∙ z))
 
 pub returns : goal.returns
 returns c =
-    let i = c.before in
-    let v = i.before.before in
     c.check_points.ensures
-    ∙ refine_points _ _ _ _ _ v.if-points-ne0.false (told v.check_for_depth-answer.result) v.check_for_depth-answer.ensures (passed v.before) (told v.check_valences-valence.result) v.check_valences-valence.ensures (sym i.number-2.ensures ∙ i.if-number-ne0-2.false)
+    ∙ refine_points _ _ _ _ _ c.if-points-ne0.false (told c.check_for_depth-answer.result) c.check_for_depth-answer.ensures (passed (goal.at.returns c).Else-number-ne0) (told c.check_valences-valence.result) c.check_valences-valence.ensures (sym c.number-2.ensures ∙ c.if-number-ne0-2.false)

@@ -16,8 +16,9 @@ use Rattle.filechecks.proofs.FieldLaws.{field_at}
 use Rattle.filechecks.proofs.AfterTables.{tables_whole, tables_stop, plain_left_lem, creased_left_lem}
 use Rattle.filechecks.proofs.Sound.{form_is, form_other, opening_kept}
 use Rattle.filechecks.proofs.file_refusal.Goals as goal
+use Rattle.filechecks.proofs.file_refusal.Goals.{After-tables_refusal-tables, After-vertices_in-vertices, Else-number-ne0, Else-number-ne0-2, Else-number-ne0-3, Start}
 
-module _ (s : goal.Start) where
+module _ (s : Start) where
   abbrev f : List ℕ
   f = s.args.file.now
 
@@ -30,9 +31,9 @@ module _ (s : goal.Start) where
 
 -- ---- after the first head
 
-module _ (c : goal.Else-number-ne0) where
-  abbrev start₁ : goal.Start
-  start₁ = c.before.before.before.before
+module _ (c : Else-number-ne0) where
+  abbrev start₁ : Start
+  start₁ = (goal.at.Else-number-ne0 c).Start
 
   head_done : first (field_checks (f start₁) 0 opening) ≡ DONE
   head_done = first_zero _ (rw c.field_refusal-head.ensures at (sym c.number.ensures ∙ c.if-number-ne0.false))
@@ -46,19 +47,19 @@ module _ (c : goal.Else-number-ne0) where
 
 -- ---- after the first payload
 
-module _ (c : goal.Else-number-ne0-2) where
-  abbrev start₂ : goal.Start
-  start₂ = start₁ c.before.before.before
+module _ (c : Else-number-ne0-2) where
+  abbrev start₂ : Start
+  start₂ = start₁ (goal.at.Else-number-ne0-2 c).Else-number-ne0
 
   counts_done : first (opening_asked both (f start₂) 0) ≡ DONE
   counts_done = first_zero _ (rw c.opening_refusal-counts.ensures at (sym c.number-2.ensures ∙ c.if-number-ne0-2.false))
 
   counts_passed : verdict start₂ ≡ rest start₂
-  counts_passed = head_passed c.before.before.before ∙ first_more _ _ counts_done
+  counts_passed = head_passed (goal.at.Else-number-ne0-2 c).Else-number-ne0 ∙ first_more _ _ counts_done
 
-module _ (c : goal.After-vertices_in-vertices) where
-  abbrev counted : goal.Else-number-ne0-2
-  counted = c.before.before
+module _ (c : After-vertices_in-vertices) where
+  abbrev counted : Else-number-ne0-2
+  counted = (goal.at.After-vertices_in-vertices c).Else-number-ne0-2
 
   H : c.halfedges_in-halfedges.result ≡ HIn (f (start₂ counted))
   H = c.halfedges_in-halfedges.ensures.0
@@ -68,16 +69,16 @@ module _ (c : goal.After-vertices_in-vertices) where
 
 -- ---- after the tables
 
-module _ (c : goal.After-tables_refusal-tables) where
-  abbrev start₃ : goal.Start
-  start₃ = start₂ (counted c.before)
+module _ (c : After-tables_refusal-tables) where
+  abbrev start₃ : Start
+  start₃ = start₂ (counted (goal.at.After-tables_refusal-tables c).After-vertices_in-vertices)
 
   tables-told : told c.tables_refusal-tables.result ≡ first (front_checks (f start₃) (past 0 opening) (table_heads (HIn (f start₃))))
-  tables-told = c.tables_refusal-tables.ensures ∙ ap (λ h. first (front_checks (f start₃) (past 0 opening) (table_heads h))) (H c.before)
+  tables-told = c.tables_refusal-tables.ensures ∙ ap (λ h. first (front_checks (f start₃) (past 0 opening) (table_heads h))) (H (goal.at.After-tables_refusal-tables c).After-vertices_in-vertices)
 
-module _ (c : goal.Else-number-ne0-3) where
-  abbrev read : goal.After-tables_refusal-tables
-  read = c.before.before
+module _ (c : Else-number-ne0-3) where
+  abbrev read : After-tables_refusal-tables
+  read = (goal.at.Else-number-ne0-3 c).After-tables_refusal-tables
 
   passed : (told read.tables_refusal-tables.result).number ≡ 0
   passed = sym c.number-3.ensures ∙ c.if-number-ne0-3.false
@@ -85,10 +86,10 @@ module _ (c : goal.Else-number-ne0-3) where
   are_whole : TablesWhole (f (start₃ read)) read.halfedges_in-halfedges.result read.vertices_in-vertices.result
   are_whole =
       record {
-        halfedges = H read.before;
-        few_halfedges = few read.before;
-        few_vertices = rw read.vertices_in-vertices.ensures.0 (opening_kept both _ 0 (counts_done (counted read.before))).2;
-        whole = omega (arith, H read.before, tables_whole _ _ (first_zero _ (rw (tables-told read) at passed)));
+        halfedges = H (goal.at.After-tables_refusal-tables read).After-vertices_in-vertices;
+        few_halfedges = few (goal.at.After-tables_refusal-tables read).After-vertices_in-vertices;
+        few_vertices = rw read.vertices_in-vertices.ensures.0 (opening_kept both _ 0 (counts_done (counted (goal.at.After-tables_refusal-tables read).After-vertices_in-vertices))).2;
+        whole = omega (arith, H (goal.at.After-tables_refusal-tables read).After-vertices_in-vertices, tables_whole _ _ (first_zero _ (rw (tables-told read) at passed)));
       }
 
 pub returns-then-number-ne0 : goal.returns-then-number-ne0
@@ -99,48 +100,45 @@ pub opening_refusal-counts-requires : goal.opening_refusal-counts-requires
 opening_refusal-counts-requires c = whole c
 
 pub returns-then-number-ne0-2 : goal.returns-then-number-ne0-2
-returns-then-number-ne0-2 c = first_stops _ _ _ c.opening_refusal-counts.ensures (λ z. c.if-number-ne0-2.true (c.number-2.ensures ∙ z)) ∙ sym (head_passed c.before.before.before)
+returns-then-number-ne0-2 c = first_stops _ _ _ c.opening_refusal-counts.ensures (λ z. c.if-number-ne0-2.true (c.number-2.ensures ∙ z)) ∙ sym (head_passed (goal.at.returns-then-number-ne0-2 c).Else-number-ne0)
 
 pub halfedges_in-halfedges-requires : goal.halfedges_in-halfedges-requires
-halfedges_in-halfedges-requires c = whole c.before.before.before
+halfedges_in-halfedges-requires c = whole (goal.at.halfedges_in-halfedges-requires c).Else-number-ne0
 
 pub vertices_in-vertices-requires : goal.vertices_in-vertices-requires
-vertices_in-vertices-requires c = whole c.before.before.before.before
+vertices_in-vertices-requires c = whole (goal.at.vertices_in-vertices-requires c).Else-number-ne0
 
 pub tables_refusal-tables-requires : goal.tables_refusal-tables-requires
 tables_refusal-tables-requires c = few c
 
 pub returns-then-number-ne0-3 : goal.returns-then-number-ne0-3
 returns-then-number-ne0-3 c =
-    let t = c.before.before in
-    tables_stop _ _ (tables-told t) (λ z. c.if-number-ne0-3.true (c.number-3.ensures ∙ z)) ∙ sym (counts_passed (counted t.before))
+    tables_stop _ _ (tables-told (goal.at.returns-then-number-ne0-3 c).After-tables_refusal-tables) (λ z. c.if-number-ne0-3.true (c.number-3.ensures ∙ z)) ∙ sym (counts_passed (counted (goal.at.returns-then-number-ne0-3 c).After-vertices_in-vertices))
 
 pub form_in-requires : goal.form_in-requires
 form_in-requires c = whole (counted (read c).before).before.before.before
 
 pub creased_refusal-requires : goal.creased_refusal-requires
-creased_refusal-requires c = are_whole c.before.before
+creased_refusal-requires c = are_whole (goal.at.creased_refusal-requires c).Else-number-ne0-3
 
 pub returns-then-form_in-eq2 : goal.returns-then-form_in-eq2
 returns-then-form_in-eq2 c =
-    let i = c.before.before in
-    let t = read i.before in
+    let t = read (goal.at.returns-then-form_in-eq2 c).Else-number-ne0-3 in
     let g = f (start₃ t) in
     let left : ℕ → ℕ → Verdict = λ h v. first (twins_asked g 0 ++ front_to_back g (18 + 6 * h) (nothing ∷ nothing ∷ weight_asked g ∷ []) (later_heads Two (E (twins_in g)) v)) in
     c.creased_refusal.ensures
     ∙ ap₂ left (H t.before) t.vertices_in-vertices.ensures.0
-    ∙ sym (creased_left_lem g _ (tables-told t) (passed i.before) (form_is g Two (sym i.form_in.ensures ∙ c.if-form_in-eq2.true)))
+    ∙ sym (creased_left_lem g _ (tables-told t) (passed (goal.at.returns-then-form_in-eq2 c).Else-number-ne0-3) (form_is g Two (sym c.form_in.ensures ∙ c.if-form_in-eq2.true)))
     ∙ sym (counts_passed (counted t.before))
 
 pub plain_refusal-requires : goal.plain_refusal-requires
-plain_refusal-requires c = let w = are_whole c.before.before in (w.few_halfedges, w.few_vertices)
+plain_refusal-requires c = let w = are_whole (goal.at.plain_refusal-requires c).Else-number-ne0-3 in (w.few_halfedges, w.few_vertices)
 
 pub returns : goal.returns
 returns c =
-    let i = c.before.before in
-    let t = read i.before in
+    let t = read (goal.at.returns c).Else-number-ne0-3 in
     let g = f (start₃ t) in
     c.plain_refusal.ensures
     ∙ ap₂ (λ h v. first (fields_checks g (18 + 6 * h) (later_heads One 0 v))) (H t.before) t.vertices_in-vertices.ensures.0
-    ∙ sym (plain_left_lem g _ (tables-told t) (passed i.before) (form_other g (λ e. c.if-form_in-eq2.false (i.form_in.ensures ∙ e))))
+    ∙ sym (plain_left_lem g _ (tables-told t) (passed (goal.at.returns c).Else-number-ne0-3) (form_other g (λ e. c.if-form_in-eq2.false (c.form_in.ensures ∙ e))))
     ∙ sym (counts_passed (counted t.before))

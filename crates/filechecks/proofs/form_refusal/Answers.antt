@@ -10,11 +10,12 @@ use Rattle.cagefile.specs.Fields.{opening}
 use Rattle.filechecks.specs.FileChecks.{field_checks, other_form}
 use Rattle.filechecks.proofs.FieldLaws.{field_at}
 use Rattle.filechecks.proofs.form_refusal.Goals as goal
+use Rattle.filechecks.proofs.form_refusal.Goals.{Else-number-ne0, Start}
 
 -- the first field is whole
-module _ (c : goal.Else-number-ne0) where
-  abbrev start : goal.Start
-  start = c.before.before.before.before
+module _ (c : Else-number-ne0) where
+  abbrev start : Start
+  start = (goal.at.Else-number-ne0 c).Start
 
   abbrev f : List ℕ
   f = start.args.file.now
@@ -34,11 +35,9 @@ form_in-requires c = whole c
 pub returns-then-form_in-number : goal.returns-then-form_in-number
 unfolding first given
 returns-then-form_in-number c =
-    let n = c.before in
-    rw (passed n.before.before) (simp (ne_eqb _ _ (λ e. c.if-form_in-number.true (n.form_in.ensures ∙ e ∙ sym n.number-2.ensures))))
+    rw (passed (goal.at.returns-then-form_in-number c).Else-number-ne0) (simp (ne_eqb _ _ (λ e. c.if-form_in-number.true (c.form_in.ensures ∙ e ∙ sym c.number-2.ensures))))
 
 pub returns : goal.returns
 unfolding first given
 returns c =
-    let n = c.before in
-    rw (passed n.before.before) (simp (eq-eqb _ _ (sym n.form_in.ensures ∙ c.if-form_in-number.false ∙ n.number-2.ensures)))
+    rw (passed (goal.at.returns c).Else-number-ne0) (simp (eq-eqb _ _ (sym c.form_in.ensures ∙ c.if-form_in-number.false ∙ c.number-2.ensures)))

@@ -9,10 +9,11 @@ use Rattle.cagefile.specs.declared.fields.Form.TheVariants.{Two}
 use Rattle.cagefile.specs.Fields.{later_heads}
 use Rattle.filechecks.specs.FileChecks.{field_checks, nothing, weight_asked, front_to_back}
 use Rattle.filechecks.proofs.later_refusal.Goals as goal
+use Rattle.filechecks.proofs.later_refusal.Goals.{After-after_tables-creases_at, Else-number-ne0, Else-number-ne0-2, Else-number-ne0-3, Start}
 
-module _ (n : goal.After-after_tables-creases_at) where
-  abbrev start : goal.Start
-  start = n.before.before
+module _ (n : After-after_tables-creases_at) where
+  abbrev start : Start
+  start = (goal.at.After-after_tables-creases_at n).Start
 
   abbrev f : List ℕ
   f = start.args.file.now
@@ -40,47 +41,45 @@ module _ (n : goal.After-after_tables-creases_at) where
   there = ap (from 0) n.after_tables-creases_at.ensures
 
 -- where the first head is expected, from where each field has passed
-abbrev at₁ : goal.Else-number-ne0 → goal.After-after_tables-creases_at
+abbrev at₁ : Else-number-ne0 → After-after_tables-creases_at
 at₁ c = c.before.before.before
 
-abbrev at₂ : goal.Else-number-ne0-2 → goal.After-after_tables-creases_at
+abbrev at₂ : Else-number-ne0-2 → After-after_tables-creases_at
 at₂ c = at₁ c.before.before.before
 
-abbrev at₃ : goal.Else-number-ne0-3 → goal.After-after_tables-creases_at
+abbrev at₃ : Else-number-ne0-3 → After-after_tables-creases_at
 at₃ c = at₂ c.before.before.before
 
-creases_passed : (c : goal.Else-number-ne0) → from (at₁ c) 0 (creases_at_lem (at₁ c)) ≡ from (at₁ c) 1 (points_at_lem (at₁ c))
+creases_passed : (c : Else-number-ne0) → from (at₁ c) 0 (creases_at_lem (at₁ c)) ≡ from (at₁ c) 1 (points_at_lem (at₁ c))
 unfolding later_heads front_to_back
 creases_passed c = first_passes _ _ _ c.field_refusal-creases.ensures (sym c.number.ensures ∙ c.if-number-ne0.false)
 
-points_passed : (c : goal.Else-number-ne0-2) → from (at₂ c) 0 (creases_at_lem (at₂ c)) ≡ from (at₂ c) 2 (weight_at_lem (at₂ c))
+points_passed : (c : Else-number-ne0-2) → from (at₂ c) 0 (creases_at_lem (at₂ c)) ≡ from (at₂ c) 2 (weight_at_lem (at₂ c))
 unfolding later_heads front_to_back
 points_passed c =
-    creases_passed c.before.before.before ∙ first_passes _ _ _ c.field_refusal-points.ensures (sym c.number-2.ensures ∙ c.if-number-ne0-2.false)
+    creases_passed (goal.at.Else-number-ne0-2 c).Else-number-ne0 ∙ first_passes _ _ _ c.field_refusal-points.ensures (sym c.number-2.ensures ∙ c.if-number-ne0-2.false)
 
-weight_passed : (c : goal.Else-number-ne0-3) → from (at₃ c) 0 (creases_at_lem (at₃ c)) ≡ from (at₃ c) 3 (weight_at_lem (at₃ c) + 3 + 1)
+weight_passed : (c : Else-number-ne0-3) → from (at₃ c) 0 (creases_at_lem (at₃ c)) ≡ from (at₃ c) 3 (weight_at_lem (at₃ c) + 3 + 1)
 unfolding later_heads front_to_back
 weight_passed c =
-    points_passed c.before.before.before
+    points_passed (goal.at.Else-number-ne0-3 c).Else-number-ne0-2
     ∙ sym (joined (at₃ c))
     ∙ first_passes _ _ _ c.weight_refusal-weight.ensures (sym c.number-3.ensures ∙ c.if-number-ne0-3.false)
 
 pub returns-then-number-ne0 : goal.returns-then-number-ne0
 unfolding later_heads front_to_back
-returns-then-number-ne0 c = let n = c.before.before in first_stops _ _ _ n.field_refusal-creases.ensures (λ z. c.if-number-ne0.true (c.number.ensures ∙ z)) ∙ there n.before
+returns-then-number-ne0 c = first_stops _ _ _ c.field_refusal-creases.ensures (λ z. c.if-number-ne0.true (c.number.ensures ∙ z)) ∙ there (goal.at.returns-then-number-ne0 c).After-after_tables-creases_at
 
 pub returns-then-number-ne0-2 : goal.returns-then-number-ne0-2
 unfolding later_heads front_to_back
 returns-then-number-ne0-2 c =
-    let i = c.before.before.before in
-    first_stops _ _ _ c.field_refusal-points.ensures (λ z. c.if-number-ne0-2.true (c.number-2.ensures ∙ z)) ∙ sym (creases_passed i) ∙ there (at₁ i)
+    first_stops _ _ _ c.field_refusal-points.ensures (λ z. c.if-number-ne0-2.true (c.number-2.ensures ∙ z)) ∙ sym (creases_passed (goal.at.returns-then-number-ne0-2 c).Else-number-ne0) ∙ there (at₁ (goal.at.returns-then-number-ne0-2 c).Else-number-ne0)
 
 pub returns-then-number-ne0-3 : goal.returns-then-number-ne0-3
 unfolding later_heads front_to_back
 returns-then-number-ne0-3 c =
-    let i = c.before.before.before in
-    first_stops _ _ _ c.weight_refusal-weight.ensures (λ z. c.if-number-ne0-3.true (c.number-3.ensures ∙ z)) ∙ joined (at₂ i) ∙ sym (points_passed i) ∙ there (at₂ i)
+    first_stops _ _ _ c.weight_refusal-weight.ensures (λ z. c.if-number-ne0-3.true (c.number-3.ensures ∙ z)) ∙ joined (at₂ (goal.at.returns-then-number-ne0-3 c).Else-number-ne0-2) ∙ sym (points_passed (goal.at.returns-then-number-ne0-3 c).Else-number-ne0-2) ∙ there (at₂ (goal.at.returns-then-number-ne0-3 c).Else-number-ne0-2)
 
 pub returns : goal.returns
 unfolding later_heads front_to_back
-returns c = c.end_refusal.ensures ∙ sym (weight_passed c.before) ∙ there (at₃ c.before)
+returns c = c.end_refusal.ensures ∙ sym (weight_passed (goal.at.returns c).Else-number-ne0-3) ∙ there (at₃ (goal.at.returns c).Else-number-ne0-3)

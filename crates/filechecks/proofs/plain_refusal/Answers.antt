@@ -7,10 +7,11 @@ use Rattle.cagefile.specs.declared.fields.Form.TheVariants.{One}
 use Rattle.cagefile.specs.Fields.{later_heads}
 use Rattle.filechecks.specs.FileChecks.{fields_checks}
 use Rattle.filechecks.proofs.plain_refusal.Goals as goal
+use Rattle.filechecks.proofs.plain_refusal.Goals.{After-after_tables-at, Start}
 
-module _ (n : goal.After-after_tables-at) where
-  abbrev start : goal.Start
-  start = n.before.before
+module _ (n : After-after_tables-at) where
+  abbrev start : Start
+  start = (goal.at.After-after_tables-at n).Start
 
   -- what the fields answer where the first head is expected at an offset
   abbrev from : ℕ → Verdict
@@ -21,11 +22,9 @@ module _ (n : goal.After-after_tables-at) where
 
 pub returns-then-number-ne0 : goal.returns-then-number-ne0
 unfolding later_heads fields_checks
-returns-then-number-ne0 c = let n = c.before.before in first_stops _ _ _ n.field_refusal-points.ensures (λ z. c.if-number-ne0.true (c.number.ensures ∙ z)) ∙ there n.before
+returns-then-number-ne0 c = first_stops _ _ _ c.field_refusal-points.ensures (λ z. c.if-number-ne0.true (c.number.ensures ∙ z)) ∙ there (goal.at.returns-then-number-ne0 c).After-after_tables-at
 
 pub returns : goal.returns
 unfolding later_heads fields_checks
 returns c =
-    let i = c.before in
-    let n = i.before.before in
-    c.end_refusal.ensures ∙ sym (first_passes _ _ _ n.field_refusal-points.ensures (sym i.number.ensures ∙ i.if-number-ne0.false)) ∙ there n.before
+    c.end_refusal.ensures ∙ sym (first_passes _ _ _ c.field_refusal-points.ensures (sym c.number.ensures ∙ c.if-number-ne0.false)) ∙ there (goal.at.returns c).After-after_tables-at

@@ -8,8 +8,9 @@ use Rattle.halfedges.proofs.Checks.{first_stops, first_passes}
 use Rattle.cagefile.specs.Fields.{table_heads}
 use Rattle.filechecks.specs.Internal.Sound.{front_checks}
 use Rattle.filechecks.proofs.tables_refusal.Goals as goal
+use Rattle.filechecks.proofs.tables_refusal.Goals.{Else-number-ne0, Else-number-ne0-2, Start}
 
-module _ (s : goal.Start) where
+module _ (s : Start) where
   -- what the fields from the kth on answer, where its head is expected at an offset
   abbrev from : ℕ → ℕ → Verdict
   from k at = first (front_checks s.args.file.now at (drop k (table_heads s.args.halfedges)))
@@ -22,19 +23,19 @@ module _ (s : goal.Start) where
   edge_at = vert_at + 3 + 2 * s.args.halfedges
 
 -- the function's entry, from where each field has passed
-abbrev start₁ : goal.Else-number-ne0 → goal.Start
+abbrev start₁ : Else-number-ne0 → Start
 start₁ c = c.before.before.before.before
 
-abbrev start₂ : goal.Else-number-ne0-2 → goal.Start
+abbrev start₂ : Else-number-ne0-2 → Start
 start₂ c = start₁ c.before.before.before
 
-twin_passed : (c : goal.Else-number-ne0) → from (start₁ c) 0 9 ≡ from (start₁ c) 1 (vert_at (start₁ c))
+twin_passed : (c : Else-number-ne0) → from (start₁ c) 0 9 ≡ from (start₁ c) 1 (vert_at (start₁ c))
 unfolding table_heads front_checks
 twin_passed c = first_passes _ _ _ c.field_refusal-twin.ensures (sym c.number.ensures ∙ c.if-number-ne0.false)
 
-vert_passed : (c : goal.Else-number-ne0-2) → from (start₂ c) 0 9 ≡ from (start₂ c) 2 (edge_at (start₂ c))
+vert_passed : (c : Else-number-ne0-2) → from (start₂ c) 0 9 ≡ from (start₂ c) 2 (edge_at (start₂ c))
 unfolding table_heads front_checks
-vert_passed c = twin_passed c.before.before.before ∙ first_passes _ _ _ c.field_refusal-vert.ensures (sym c.number-2.ensures ∙ c.if-number-ne0-2.false)
+vert_passed c = twin_passed (goal.at.Else-number-ne0-2 c).Else-number-ne0 ∙ first_passes _ _ _ c.field_refusal-vert.ensures (sym c.number-2.ensures ∙ c.if-number-ne0-2.false)
 
 pub returns-then-number-ne0 : goal.returns-then-number-ne0
 unfolding table_heads front_checks
@@ -42,8 +43,8 @@ returns-then-number-ne0 c = first_stops _ _ _ c.field_refusal-twin.ensures (λ z
 
 pub returns-then-number-ne0-2 : goal.returns-then-number-ne0-2
 unfolding table_heads front_checks
-returns-then-number-ne0-2 c = first_stops _ _ _ c.field_refusal-vert.ensures (λ z. c.if-number-ne0-2.true (c.number-2.ensures ∙ z)) ∙ sym (twin_passed c.before.before.before)
+returns-then-number-ne0-2 c = first_stops _ _ _ c.field_refusal-vert.ensures (λ z. c.if-number-ne0-2.true (c.number-2.ensures ∙ z)) ∙ sym (twin_passed (goal.at.returns-then-number-ne0-2 c).Else-number-ne0)
 
 pub returns : goal.returns
 unfolding table_heads front_checks
-returns c = c.field_refusal.ensures ∙ sym (ap first (append-nil _)) ∙ sym (vert_passed c.before)
+returns c = c.field_refusal.ensures ∙ sym (ap first (append-nil _)) ∙ sym (vert_passed (goal.at.returns c).Else-number-ne0-2)

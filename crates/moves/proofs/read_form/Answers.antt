@@ -14,15 +14,15 @@ pub returns-then-number-ne0 : goal.returns-then-number-ne0
 returns-then-number-ne0 c =
     let answer = ap (λ a. a.verdict) c.refused.ensures in
     let stopped : (told c.form_refusal-answer.result).number ≢ 0 = λ z. c.if-number-ne0.true (c.number.ensures ∙ z) in
-    (answer ∙ form_refused _ _ _ c.form_refusal-answer.ensures stopped, λ z. absurd (stopped (sym (ap (λ v. v.number) answer) ∙ z)))
+    record { answer_value = answer ∙ form_refused _ _ _ c.form_refusal-answer.ensures stopped; fronts = λ z. absurd (stopped (sym (ap (λ v. v.number) answer) ∙ z)) }
 
 pub returns : goal.returns
 returns c =
     let lent : Tables = tables c.args.twin.now c.args.vert.now c.args.edge.now in
     let now : Tables = let twins = c.read.new.twin in tables twins.0 twins.1.0 twins.1.1.0 in
-    let points : List ℤ = c.read.new.twin.1.1.1.0 in
-    let creases : List ℕ = c.read.new.twin.1.1.1.1.0 in (
-      ample_told _ lent c.args.points.now c.args.creases.now c.requires c.read.result now points creases c.read.ensures
-          ∙ form_held _ _ _ c.form_refusal-answer.ensures (sym c.number.ensures ∙ c.if-number-ne0.false),
-      ample_fronts _ lent c.args.points.now c.args.creases.now c.requires c.read.result now points creases c.read.ensures,
-    )
+    let points : List ℤ = c.read.new.points in
+    let creases : List ℕ = c.read.new.creases in record {
+      answer_value = ample_told _ lent c.args.points.now c.args.creases.now c.requires c.read.result now points creases c.read.ensures
+          ∙ form_held _ _ _ c.form_refusal-answer.ensures (sym c.number.ensures ∙ c.if-number-ne0.false);
+      fronts = ample_fronts _ lent c.args.points.now c.args.creases.now c.requires c.read.result now points creases c.read.ensures;
+    }

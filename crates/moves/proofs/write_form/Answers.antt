@@ -16,8 +16,9 @@ use Rattle.writing.proofs.Outcomes.{refused_left}
 use Rattle.moves.specs.Moves.{not_old}
 use Rattle.moves.proofs.CageMoves.{old_plain, plain-written, old_written, moves_refused, moves_not_old}
 use Rattle.moves.proofs.write_form.Goals as goal
+use Rattle.moves.proofs.write_form.Goals.{After-is_numbered, After-number, Start}
 
-module _ (s : goal.Start) where
+module _ (s : Start) where
   abbrev cage : Cage
   cage =
       record {
@@ -31,17 +32,17 @@ module _ (s : goal.Start) where
   lent = s.args.lent.now
 
 -- for form 1
-module _ (n : goal.After-is_numbered) where
-  abbrev start : goal.Start
-  start = n.before.before.before.before.before.before.before.before
+module _ (n : After-is_numbered) where
+  abbrev start : Start
+  start = (goal.at.After-is_numbered n).Start
 
   one : start.args.form ≡ One
   one = n.enum_told-in_default-1.given.1
 
 -- and what the answer of the checks tells
-module _ (n : goal.After-number) where
-  abbrev tested : goal.After-is_numbered
-  tested = n.before.before.before
+module _ (n : After-number) where
+  abbrev tested : After-is_numbered
+  tested = (goal.at.After-number n).After-is_numbered
 
   abbrev w : Cage
   w = cage (start tested)
@@ -51,33 +52,25 @@ module _ (n : goal.After-number) where
 
 pub returns-in-Two : goal.returns-in-Two
 returns-in-Two c =
-    let w = c.before.before in
-    let e = w.before.before in
-    let s = e.before.before.before.before.before.before.before in
-    rw (e.enum_told-1.given.1, ← plain-written Two (cage s) (lent s) tt) w.write_form_2.ensures
+    rw (c.enum_told-1.given.1, ← plain-written Two (cage (goal.at.returns-in-Two c).Start) (lent (goal.at.returns-in-Two c).Start) tt) c.write_form_2.ensures
 
 pub returns-then-not-is_numbered : goal.returns-then-not-is_numbered
 returns-then-not-is_numbered c =
-    let w = c.before.before in
-    let i = w.before.before in
-    let n = i.before in
-    let s = start n in
-    let old : not_old One (cage s) ≡ false = sym n.is_numbered.ensures ∙ not-true _ i.if-not-is_numbered.true in
-    rw (one n, ← old_written (cage s) (lent s) (old_plain One (cage s) s.requires old)) w.write.ensures
+    let s = start (goal.at.returns-then-not-is_numbered c).After-is_numbered in
+    let old : not_old One (cage s) ≡ false = sym c.is_numbered.ensures ∙ not-true _ c.if-not-is_numbered.true in
+    rw (one (goal.at.returns-then-not-is_numbered c).After-is_numbered, ← old_written (cage s) (lent s) (old_plain One (cage s) s.requires old)) c.write.ensures
 
 pub returns-then-number-ne0 : goal.returns-then-number-ne0
 returns-then-number-ne0 c =
-    let n = c.before in
-    let s = start (tested n) in
-    let a = n.check_for_refining-answer.result in
+    let s = start (tested (goal.at.returns-then-number-ne0 c).After-number) in
+    let a = c.check_for_refining-answer.result in
     let form = s.args.form in
-    refused_left a (moves_refused form (w n) (lent s) (told a) (checks n) (λ z. c.if-number-ne0.true (n.number.ensures ∙ z))) n.number.ensures (file form (w n)) (lent s) c.if-number-ne0.true
+    refused_left a (moves_refused form (w (goal.at.returns-then-number-ne0 c).After-number) (lent s) (told a) (checks (goal.at.returns-then-number-ne0 c).After-number) (λ z. c.if-number-ne0.true (c.number.ensures ∙ z))) c.number.ensures (file form (w (goal.at.returns-then-number-ne0 c).After-number)) (lent s) c.if-number-ne0.true
 
 pub returns : goal.returns
 returns c =
-    let n = c.before in
-    let t = tested n in
+    let t = tested (goal.at.returns c).After-number in
     let s = start t in
     let form = s.args.form in
-    let old : not_old form (w n) ≡ true = ap (λ k. not_old k (w n)) (one t) ∙ sym t.is_numbered.ensures ∙ not-false _ n.if-not-is_numbered.false in
-    refused_left NotOld (moves_not_old form (w n) (lent s) _ (checks n) (sym n.number.ensures ∙ c.if-number-ne0.false) old) refl (file form (w n)) (lent s) (λ z. omega arith)
+    let old : not_old form (w (goal.at.returns c).After-number) ≡ true = ap (λ k. not_old k (w (goal.at.returns c).After-number)) (one t) ∙ sym t.is_numbered.ensures ∙ not-false _ c.if-not-is_numbered.false in
+    refused_left NotOld (moves_not_old form (w (goal.at.returns c).After-number) (lent s) _ (checks (goal.at.returns c).After-number) (sym c.number.ensures ∙ c.if-number-ne0.false) old) refl (file form (w (goal.at.returns c).After-number)) (lent s) (λ z. omega arith)

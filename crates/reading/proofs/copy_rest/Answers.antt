@@ -16,10 +16,11 @@ use Rattle.filechecks.specs.Internal.Sound.{Sound}
 use Rattle.filechecks.proofs.Sound.{form_is, form_other, sound_length}
 use Rattle.filechecks.proofs.Places.{creases_at_lem, no_creases_lem, plain_points, creased_points, plain_weight, creased_weight}
 use Rattle.reading.proofs.copy_rest.Goals as goal
+use Rattle.reading.proofs.copy_rest.Goals.{After-after_tables-at, After-edges_in-edges, Else-not-has_creases, Start, Then-not-has_creases}
 
-module _ (n : goal.After-after_tables-at) where
-  abbrev start : goal.Start
-  start = n.before.before.before.before.before
+module _ (n : After-after_tables-at) where
+  abbrev start : Start
+  start = (goal.at.After-after_tables-at n).Start
 
   abbrev f : List ℕ
   f = start.args.file.now
@@ -39,65 +40,63 @@ module _ (n : goal.After-after_tables-at) where
   at_is : n.after_tables-at.result ≡ 18 + 6 * h
   at_is = n.after_tables-at.ensures
 
-sound : (s : goal.Start) → Sound s.args.file.now
+sound : (s : Start) → Sound s.args.file.now
 sound s = s.requires.0
 
-long : (s : goal.Start) → 24 + 6 * HIn s.args.file.now + 12 * VIn s.args.file.now ≤ length s.args.file.now
+long : (s : Start) → 24 + 6 * HIn s.args.file.now + 12 * VIn s.args.file.now ≤ length s.args.file.now
 long s = omega (arith, sound_length _ (sound s))
 
 -- form 1
-module _ (c : goal.Then-not-has_creases) where
-  abbrev counted₁ : goal.After-after_tables-at
-  counted₁ = c.before.before
+module _ (c : Then-not-has_creases) where
+  abbrev counted₁ : After-after_tables-at
+  counted₁ = (goal.at.Then-not-has_creases c).After-after_tables-at
 
   one : form_of (f counted₁) ≡ One
   one = form_other _ (eqb-false _ _ (sym c.has_creases.ensures ∙ not-true _ c.if-not-has_creases.true))
 
 -- form 2
-module _ (c : goal.Else-not-has_creases) where
-  abbrev counted₂ : goal.After-after_tables-at
-  counted₂ = c.before.before
+module _ (c : Else-not-has_creases) where
+  abbrev counted₂ : After-after_tables-at
+  counted₂ = (goal.at.Else-not-has_creases c).After-after_tables-at
 
   two : form_of (f counted₂) ≡ Two
   two = form_is _ Two (eqb-true _ _ (sym c.has_creases.ensures ∙ not-false _ c.if-not-has_creases.false))
 
-module _ (e : goal.After-edges_in-edges) where
-  abbrev n : goal.After-after_tables-at
-  n = counted₂ e.before
+module _ (e : After-edges_in-edges) where
+  abbrev n : After-after_tables-at
+  n = counted₂ (goal.at.After-edges_in-edges e).Else-not-has_creases
 
   -- the file's length, by what was counted
   all : length (f n) ≡ 31 + 6 * h n + 12 * v n + e.edges_in-edges.result
   all =
       let l = sound_length _ (sound (start n)) in
-      let k : extra (form_of (f n)) (EIn (f n)) ≡ 7 + EIn (f n) = ap (λ form. extra form (EIn (f n))) (two e.before) in
+      let k : extra (form_of (f n)) (EIn (f n)) ≡ 7 + EIn (f n) = ap (λ form. extra form (EIn (f n))) (two (goal.at.After-edges_in-edges e).Else-not-has_creases) in
       omega (arith, hs n, vs n, e.edges_in-edges.ensures.0)
 
 pub vertices_in-coordinates-requires : goal.vertices_in-coordinates-requires
-vertices_in-coordinates-requires c = omega (arith, long c.before.before)
+vertices_in-coordinates-requires c = omega (arith, long (goal.at.vertices_in-coordinates-requires c).Start)
 
 pub halfedges_in-requires : goal.halfedges_in-requires
-halfedges_in-requires c = omega (arith, long c.before.before.before)
+halfedges_in-requires c = omega (arith, long (goal.at.halfedges_in-requires c).Start)
 
 pub after_tables-at-requires : goal.after_tables-at-requires
-after_tables-at-requires c = rw c.halfedges_in.ensures.0 (sound c.before.before.before.before).few_halfedges
+after_tables-at-requires c = rw c.halfedges_in.ensures.0 (sound (goal.at.after_tables-at-requires c).Start).few_halfedges
 
 pub has_creases-requires : goal.has_creases-requires
 has_creases-requires c = omega (arith, long (start c))
 
 pub copy_points-requires : goal.copy_points-requires
 copy_points-requires c =
-    let k = counted₁ c.before in
+    let k = counted₁ (goal.at.copy_points-requires c).Then-not-has_creases in
     (omega (arith, long (start k), hs k, vs k, at_is k), omega (arith, (start k).requires.1, vs k))
 
 pub returns-then-not-has_creases : goal.returns-then-not-has_creases
 returns-then-not-has_creases c =
-    let p = c.before in
-    let i = p.before.before in
-    let k = counted₁ i in
+    let k = counted₁ (goal.at.returns-then-not-has_creases c).Then-not-has_creases in
     let points : ℕ → List ℤ = λ at. tabulate (3 * v k) (λ j. signed (u32_at (f k) (at + 3 + 4 * j))) in (
-      plain_weight (f k) (h k) (v k) (hs k) (vs k) (one i),
-      p.copy_points.ensures ∙ ap (λ t. in_front t (start k).args.points.now) (ap points (at_is k) ∙ plain_points (f k) (h k) (v k) (hs k) (vs k) (one i)),
-      sym (ap (λ t. in_front t (start k).args.creases.now) (no_creases_lem (f k) (h k) (v k) (hs k) (vs k) (one i))),
+      plain_weight (f k) (h k) (v k) (hs k) (vs k) (one (goal.at.returns-then-not-has_creases c).Then-not-has_creases),
+      c.copy_points.ensures ∙ ap (λ t. in_front t (start k).args.points.now) (ap points (at_is k) ∙ plain_points (f k) (h k) (v k) (hs k) (vs k) (one (goal.at.returns-then-not-has_creases c).Then-not-has_creases)),
+      sym (ap (λ t. in_front t (start k).args.creases.now) (no_creases_lem (f k) (h k) (v k) (hs k) (vs k) (one (goal.at.returns-then-not-has_creases c).Then-not-has_creases))),
     )
 
 pub edges_in-edges-requires : goal.edges_in-edges-requires
@@ -105,32 +104,26 @@ edges_in-edges-requires c = sound (start (counted₂ c))
 
 pub copy_creases-requires : goal.copy_creases-requires
 copy_creases-requires c =
-    let e = c.before in
-    let k = n e in
-    (omega (arith, all e, at_is k), omega (arith, (start k).requires.2, e.edges_in-edges.ensures.0))
+    let k = n (goal.at.copy_creases-requires c).After-edges_in-edges in
+    (omega (arith, all (goal.at.copy_creases-requires c).After-edges_in-edges, at_is k), omega (arith, (start k).requires.2, c.edges_in-edges.ensures.0))
 
 pub copy_points-requires-2 : goal.copy_points-requires-2
 copy_points-requires-2 c =
-    let e = c.before.before.before.before.before in
-    let k = n e in
-    (omega (arith, all e, at_is k), omega (arith, (start k).requires.1, vs k))
+    let k = n (goal.at.copy_points-requires-2 c).After-edges_in-edges in
+    (omega (arith, all (goal.at.copy_points-requires-2 c).After-edges_in-edges, at_is k), omega (arith, (start k).requires.1, vs k))
 
 pub byte_at-requires : goal.byte_at-requires
 byte_at-requires c =
-    let e = c.before.before.before.before.before.before.before in
-    omega (arith, all e, at_is (n e))
+    omega (arith, all (goal.at.byte_at-requires c).After-edges_in-edges, at_is (n (goal.at.byte_at-requires c).After-edges_in-edges))
 
 pub returns : goal.returns
 returns c =
-    let p = c.before.before in
-    let d = p.before.before.before.before in
-    let e = d.before.before in
-    let k = n e in
-    let r = e.edges_in-edges.ensures.0 in
-    let t = two e.before in
-    let cells : ℕ → List ℕ = λ at. tabulate e.edges_in-edges.result (λ j. get_or (f k) (at + 3 + j) 0) in
-    let points : ℕ → List ℤ = λ at. tabulate (3 * v k) (λ j. signed (u32_at (f k) (at + 3 + e.edges_in-edges.result + 3 + 4 * j))) in (
-      c.byte_at.ensures ∙ ap (λ at. get_or (f k) (at + 3 + e.edges_in-edges.result + 3 + 4 * (3 * v k) + 3) 0) (at_is k) ∙ creased_weight (f k) (h k) (v k) (hs k) (vs k) t _ r (sound (start k)),
-      p.copy_points-2.ensures ∙ ap (λ s. in_front s (start k).args.points.now) (ap points (at_is k) ∙ creased_points (f k) (h k) (v k) (hs k) (vs k) t _ r),
-      d.copy_creases.ensures ∙ ap (λ s. in_front s (start k).args.creases.now) (ap cells (at_is k) ∙ creases_at_lem (f k) (h k) _ (hs k) r),
+    let k = n (goal.at.returns c).After-edges_in-edges in
+    let r = c.edges_in-edges.ensures.0 in
+    let t = two (goal.at.returns c).Else-not-has_creases in
+    let cells : ℕ → List ℕ = λ at. tabulate c.edges_in-edges.result (λ j. get_or (f k) (at + 3 + j) 0) in
+    let points : ℕ → List ℤ = λ at. tabulate (3 * v k) (λ j. signed (u32_at (f k) (at + 3 + c.edges_in-edges.result + 3 + 4 * j))) in (
+      c.byte_at.ensures ∙ ap (λ at. get_or (f k) (at + 3 + c.edges_in-edges.result + 3 + 4 * (3 * v k) + 3) 0) (at_is k) ∙ creased_weight (f k) (h k) (v k) (hs k) (vs k) t _ r (sound (start k)),
+      c.copy_points-2.ensures ∙ ap (λ s. in_front s (start k).args.points.now) (ap points (at_is k) ∙ creased_points (f k) (h k) (v k) (hs k) (vs k) t _ r),
+      c.copy_creases.ensures ∙ ap (λ s. in_front s (start k).args.creases.now) (ap cells (at_is k) ∙ creases_at_lem (f k) (h k) _ (hs k) r),
     )

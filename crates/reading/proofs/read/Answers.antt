@@ -13,8 +13,9 @@ use Rattle.filechecks.proofs.Sound.{sound_length}
 use Rattle.reading.proofs.Verdict.{read_sound, read_room}
 use Rattle.reading.proofs.Outcomes.{done_left, refused_left}
 use Rattle.reading.proofs.read.Goals as goal
+use Rattle.reading.proofs.read.Goals.{After-copy_rest-arg-2-1, After-copy_tables, Else-number-ne0, Start}
 
-module _ (s : goal.Start) where
+module _ (s : Start) where
   abbrev f : List ℕ
   f = s.args.file.now
 
@@ -22,8 +23,8 @@ module _ (s : goal.Start) where
   lent = tables s.args.twin.now s.args.vert.now s.args.edge.now
 
 -- where the verdict is done
-module _ (c : goal.Else-number-ne0) where
-  abbrev start : goal.Start
+module _ (c : Else-number-ne0) where
+  abbrev start : Start
   start = c.before.before.before.before.before.before.before.before.before.before.before.before.before
 
   done : read_verdict (f start) (lent start) start.args.points.now start.args.creases.now ≡ DONE
@@ -37,7 +38,7 @@ module _ (c : goal.Else-number-ne0) where
   room = read_room _ _ _ _ done
 
 -- where the tables were copied, once the points are about to be
-abbrev copied : goal.After-copy_rest-arg-2-1 → goal.After-copy_tables
+abbrev copied : After-copy_rest-arg-2-1 → After-copy_tables
 copied c = c.before.before.before.before.before.before.before.before
 
 pub returns-then-number-ne0 : goal.returns-then-number-ne0
@@ -46,8 +47,7 @@ returns-then-number-ne0 c =
 
 pub copy_tables-requires : goal.copy_tables-requires
 copy_tables-requires c =
-    let d = c.before.before.before in
-    (omega (arith, sound_length _ (sound d)), (room d).twin, (room d).vert, (room d).edge)
+    (omega (arith, sound_length _ (sound (goal.at.copy_tables-requires c).Else-number-ne0)), (room (goal.at.copy_tables-requires c).Else-number-ne0).twin, (room (goal.at.copy_tables-requires c).Else-number-ne0).vert, (room (goal.at.copy_tables-requires c).Else-number-ne0).edge)
 
 pub copy_rest-weight-requires : goal.copy_rest-weight-requires
 copy_rest-weight-requires c =
@@ -55,13 +55,12 @@ copy_rest-weight-requires c =
     (sound d, (room d).coordinates, (room d).creases)
 
 pub of-requires : goal.of-requires
-of-requires c = sound (copied c.before.before.before.before).before.before.before.before
+of-requires c = sound (copied (goal.at.of-requires c).After-copy_rest-arg-2-1).before.before.before.before
 
 pub returns : goal.returns
 returns c =
-    let rest = c.before.before.before.before in
-    let tables-there = copied rest.before in
+    let tables-there = copied (goal.at.returns c).After-copy_rest-arg-2-1 in
     let t = tables-there.copy_tables.ensures in
-    let r = rest.copy_rest-weight.ensures in
+    let r = c.copy_rest-weight.ensures in
     done_left _ _ _ _ (done tables-there.before.before.before.before) _ _ c.of.ensures r.0 _ _ _
     (λ i. tables (t.0 i) (t.1 i) (t.2 i)) r.1 r.2

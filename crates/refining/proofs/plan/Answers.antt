@@ -6,57 +6,40 @@ use Rattle.tables.specs.Tables.{tables}
 use Rattle.points.specs.Operations.{refine_checks}
 use Rattle.refining.proofs.Refined.{few_vertices, cage_refused, cage_done, counts_granted, tables-short, points_short, creases_short, all_roomy}
 use Rattle.refining.proofs.plan.Goals as goal
+use Rattle.refining.proofs.plan.Goals.{Else-number-ne0, Start}
 
 -- where 1 to 8 are passed
-abbrev start : goal.Else-number-ne0 → goal.Start
+abbrev start : Else-number-ne0 → Start
 start i = i.before.before.before.before.before.before.before.before.before.before.before
 
-passed : (i : goal.Else-number-ne0) → let s = (start i).args in first (refine_checks s.weight (tables s.cage-twin.now s.cage-vert.now s.cage-edge.now) s.cage_creases.now s.cage_points.now s.depth) ≡ DONE
+passed : (i : Else-number-ne0) → let s = (start i).args in first (refine_checks s.weight (tables s.cage-twin.now s.cage-vert.now s.cage-edge.now) s.cage_creases.now s.cage_points.now s.depth) ≡ DONE
 passed i = cage_done _ _ _ _ _ i.check_for_refining-cage.result i.check_for_refining-cage.ensures i.number.ensures i.if-number-ne0.false
 
 pub returns-then-number-ne0 : goal.returns-then-number-ne0
 returns-then-number-ne0 c = cage_refused _ _ _ _ _ c.check_for_refining-cage.result c.check_for_refining-cage.ensures c.number.ensures _ _ _ c.if-number-ne0.true
 
 pub short_levels-short-requires : goal.short_levels-short-requires
-short_levels-short-requires c = counts_granted _ _ _ _ _ (passed c.before) c.counts_of-of.ensures
+short_levels-short-requires c = counts_granted _ _ _ _ _ (passed (goal.at.short_levels-short-requires c).Else-number-ne0) c.counts_of-of.ensures
 
 pub returns-then-number-ne0-2 : goal.returns-then-number-ne0-2
 returns-then-number-ne0-2 c =
-    let t = c.before.before in
-    let k = t.before in
-    tables-short _ _ _ _ _ _ _ _ (passed k.before) k.counts_of-of.ensures t.short_levels-short.result t.short_levels-short.ensures c.number-2.ensures c.if-number-ne0-2.true
+    tables-short _ _ _ _ _ _ _ _ (passed (goal.at.returns-then-number-ne0-2 c).Else-number-ne0) c.counts_of-of.ensures c.short_levels-short.result c.short_levels-short.ensures c.number-2.ensures c.if-number-ne0-2.true
 
 pub levels-levels-requires : goal.levels-levels-requires
-levels-levels-requires c = let k = c.before.before.before in counts_granted _ _ _ _ _ (passed k.before) k.counts_of-of.ensures
+levels-levels-requires c = counts_granted _ _ _ _ _ (passed (goal.at.levels-levels-requires c).Else-number-ne0) c.counts_of-of.ensures
 
 pub overflow_mul-levels : goal.overflow_mul-levels
 overflow_mul-levels c =
-    let l = c.before in
-    let k = l.before.before.before.before in
-    omega (arith, few_vertices _ _ (counts_granted _ _ _ _ _ (passed k.before) k.counts_of-of.ensures) l.levels-levels.ensures)
+    omega (arith, few_vertices _ _ (counts_granted _ _ _ _ _ (passed (goal.at.overflow_mul-levels c).Else-number-ne0) c.counts_of-of.ensures) c.levels-levels.ensures)
 
 pub returns-then-points-levels : goal.returns-then-points-levels
 returns-then-points-levels c =
-    let l = c.before.before in
-    let e = l.before in
-    let t = e.before.before in
-    let k = t.before in
-    points_short _ _ _ _ _ _ _ _ (passed k.before) k.counts_of-of.ensures t.short_levels-short.result t.short_levels-short.ensures e.number-2.ensures e.if-number-ne0-2.false l.levels-levels.ensures c.if-points-levels.true
+    points_short _ _ _ _ _ _ _ _ (passed (goal.at.returns-then-points-levels c).Else-number-ne0) c.counts_of-of.ensures c.short_levels-short.result c.short_levels-short.ensures c.number-2.ensures c.if-number-ne0-2.false c.levels-levels.ensures c.if-points-levels.true
 
 pub returns-then-creases-levels : goal.returns-then-creases-levels
 returns-then-creases-levels c =
-    let i = c.before.before in
-    let l = i.before.before in
-    let e = l.before in
-    let t = e.before.before in
-    let k = t.before in
-    creases_short _ _ _ _ _ _ _ _ (passed k.before) k.counts_of-of.ensures t.short_levels-short.result t.short_levels-short.ensures e.number-2.ensures e.if-number-ne0-2.false l.levels-levels.ensures i.if-points-levels.false c.if-creases-levels.true
+    creases_short _ _ _ _ _ _ _ _ (passed (goal.at.returns-then-creases-levels c).Else-number-ne0) c.counts_of-of.ensures c.short_levels-short.result c.short_levels-short.ensures c.number-2.ensures c.if-number-ne0-2.false c.levels-levels.ensures c.if-points-levels.false c.if-creases-levels.true
 
 pub returns : goal.returns
 returns c =
-    let i = c.before.before in
-    let l = i.before.before in
-    let e = l.before in
-    let t = e.before.before in
-    let k = t.before in
-    all_roomy _ _ _ _ _ _ _ _ (passed k.before) k.counts_of-of.ensures t.short_levels-short.result t.short_levels-short.ensures e.number-2.ensures e.if-number-ne0-2.false l.levels-levels.ensures i.if-points-levels.false c.if-creases-levels.false
+    all_roomy _ _ _ _ _ _ _ _ (passed (goal.at.returns c).Else-number-ne0) c.counts_of-of.ensures c.short_levels-short.result c.short_levels-short.ensures c.number-2.ensures c.if-number-ne0-2.false c.levels-levels.ensures c.if-points-levels.false c.if-creases-levels.false

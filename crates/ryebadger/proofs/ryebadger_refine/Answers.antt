@@ -9,13 +9,14 @@ use Rattle.answers.specs.Cells.{level_cells}
 use Rattle.answers.specs.Internal.Fitting.{Fitting, Sevens}
 use Rattle.answers.proofs.Answers.{refine_fits, levels-told}
 use Rattle.ryebadger.proofs.ryebadger_refine.Goals as goal
+use Rattle.ryebadger.proofs.ryebadger_refine.Goals.{After-numbered-chosen, After-refine-counted, Start}
 
-module _ (r : goal.After-refine-counted) where
-  abbrev n : goal.After-numbered-chosen
-  n = r.before.before.before.before.before.before
+module _ (r : After-refine-counted) where
+  abbrev n : After-numbered-chosen
+  n = (goal.at.After-refine-counted r).After-numbered-chosen
 
-  abbrev s : goal.Start
-  s = n.before.before.before.before.before.before.before.before.before
+  abbrev s : Start
+  s = (goal.at.After-numbered-chosen n).Start
 
   -- what refining leaves, by a weight
   abbrev after : Weight → Refined
@@ -34,14 +35,13 @@ module _ (r : goal.After-refine-counted) where
       ∙ ap (λ w. level_cells (after w).answer) n.numbered-chosen.ensures
 
 pub of_counts-requires : goal.of_counts-requires
-of_counts-requires c = fits c.before.before.before.before.before.before.before.before.before
+of_counts-requires c = fits (goal.at.of_counts-requires c).After-refine-counted
 
 pub returns : goal.returns
 returns c =
-    let r = c.before.before.before.before.before.before.before.before.before.before in
-    let chosen = (n r).numbered-chosen.ensures in (
-      c.of_counts.ensures ∙ put r,
-      r.refine-counted.ensures.1 ∙ ap (λ w. (after r w).lent) chosen,
-      r.refine-counted.ensures.2 ∙ ap (λ w. (after r w).points) chosen,
-      r.refine-counted.ensures.3 ∙ ap (λ w. (after r w).creases) chosen,
+    let chosen = (n (goal.at.returns c).After-refine-counted).numbered-chosen.ensures in (
+      c.of_counts.ensures ∙ put (goal.at.returns c).After-refine-counted,
+      c.refine-counted.ensures.1 ∙ ap (λ w. (after (goal.at.returns c).After-refine-counted w).lent) chosen,
+      c.refine-counted.ensures.2 ∙ ap (λ w. (after (goal.at.returns c).After-refine-counted w).points) chosen,
+      c.refine-counted.ensures.3 ∙ ap (λ w. (after (goal.at.returns c).After-refine-counted w).creases) chosen,
     )

@@ -8,19 +8,20 @@ use Rattle.halfedges.specs.Cage.{cell}
 use Rattle.halfedges.proofs.Triangle.{next_below}
 use Rattle.valences.proofs.Counted.{twin_kept, ends_cleared}
 use Rattle.valences.proofs.clear_ends.Goals as goal
+use Rattle.valences.proofs.clear_ends.Goals.{After-next, After-wide-to, Start}
 
 -- the next halfedge is one of the table's
-module _ (c : goal.After-next) where
-  abbrev start : goal.Start
-  start = c.before.before.before.before.before.before.before.before
+module _ (c : After-next) where
+  abbrev start : Start
+  start = (goal.at.After-next c).Start
 
   next_in : c.next.result < length start.args.vert.now
   next_in = omega (arith, c.next.ensures, next_below start.requires.0.whole start.requires.1)
 
 -- both ends have a cell
-module _ (c : goal.After-wide-to) where
-  abbrev n : goal.After-next
-  n = c.before.before
+module _ (c : After-wide-to) where
+  abbrev n : After-next
+  n = (goal.at.After-wide-to c).After-next
 
   from_in : n.wide-from.result < length (start n).args.corners.now
   from_in = omega (arith, n.wide-from.ensures, (start n).requires.0.below _ (start n).requires.1)
@@ -35,7 +36,7 @@ pub offset_bounds-vert-next : goal.offset_bounds-vert-next
 offset_bounds-vert-next c = omega (arith, next_in c)
 
 pub bounds-vert-next : goal.bounds-vert-next
-bounds-vert-next c = next_in c.before
+bounds-vert-next c = next_in (goal.at.bounds-vert-next c).After-next
 
 pub offset_bounds-corners-from : goal.offset_bounds-corners-from
 offset_bounds-corners-from c = omega (arith, from_in c)
@@ -51,6 +52,5 @@ bounds-corners-to c = simp length-set (to_in c)
 
 pub returns : goal.returns
 returns c =
-    let k = c.before.before in
-    let s = start k in
-    ends_cleared s.args.twin.now s.args.vert.now s.args.halfedge s.args.corners.now k.wide-from.ensures (c.wide-to.ensures ∙ ap (cell s.args.vert.now) k.next.ensures) (eq-eqb _ _ k.if-twin-halfedge.false) (from_in c) (to_in c)
+    let s = start (goal.at.returns c).After-next in
+    ends_cleared s.args.twin.now s.args.vert.now s.args.halfedge s.args.corners.now c.wide-from.ensures (c.wide-to.ensures ∙ ap (cell s.args.vert.now) c.next.ensures) (eq-eqb _ _ c.if-twin-halfedge.false) (from_in c) (to_in c)

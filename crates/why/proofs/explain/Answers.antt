@@ -7,11 +7,12 @@ use Rattle.clauses.specs.Internal.Reached.{Reached}
 use Rattle.why.specs.Why.{why_cage}
 use Rattle.why.proofs.Found.{found}
 use Rattle.why.proofs.explain.Goals as goal
+use Rattle.why.proofs.explain.Goals.{After-check_creased-checked, Start}
 
 -- what the check told
-module _ (c : goal.After-check_creased-checked) where
-  abbrev start : goal.Start
-  start = c.before.before.before.before.before
+module _ (c : After-check_creased-checked) where
+  abbrev start : Start
+  start = (goal.at.After-check_creased-checked c).Start
 
   same : told c.check_creased-checked.result.answer ≡ (check_creased (tables start.args.twin.now start.args.vert.now start.args.edge.now) start.args.creases.now start.args.points.now).verdict
   same = ap (λ u. u.verdict) c.check_creased-checked.ensures
@@ -22,4 +23,4 @@ clause_at-clause-requires c = subst (Reached _ _) (sym (same c)) (found _ (start
 
 pub returns : goal.returns
 unfolding why_cage
-returns c = rw (c.clause_at-clause.ensures, same c.before)
+returns c = rw (c.clause_at-clause.ensures, same (goal.at.returns c).After-check_creased-checked)

@@ -16,9 +16,10 @@ use Rattle.writing.proofs.Accepted.{write_fits}
 use Rattle.writing.proofs.WriteChecks.{needed, write_room}
 use Rattle.writing.proofs.FieldWriting.{tables_behind, left_next, points_next, end_written}
 use Rattle.writing.proofs.write_creased.Goals as goal
+use Rattle.writing.proofs.write_creased.Goals.{After-byte-1, After-write_bytes-arg-1, After-write_end-arg-1, After-write_points-arg-1, After-write_tables-arg-1, Start}
 
 -- what is written; it fits, there is a number for each edge, and there is room
-module _ (s : goal.Start) where
+module _ (s : Start) where
   abbrev cage : Cage
   cage =
       record {
@@ -42,19 +43,19 @@ weight_small Short = omega arith
 weight_small Paper = omega arith
 
 -- the function's entry, from where each field is about to be written
-abbrev start₁ : goal.After-write_tables-arg-1 → goal.Start
+abbrev start₁ : After-write_tables-arg-1 → Start
 start₁ c = c.before.before.before.before.before.before
 
-abbrev start₂ : goal.After-write_bytes-arg-1 → goal.Start
+abbrev start₂ : After-write_bytes-arg-1 → Start
 start₂ c = start₁ c.before.before.before.before
 
-abbrev start₃ : goal.After-write_points-arg-1 → goal.Start
+abbrev start₃ : After-write_points-arg-1 → Start
 start₃ c = start₂ c.before.before.before.before
 
-abbrev start₄ : goal.After-byte-1 → goal.Start
+abbrev start₄ : After-byte-1 → Start
 start₄ c = start₃ c.before.before.before.before.before.before
 
-abbrev start₅ : goal.After-write_end-arg-1 → goal.Start
+abbrev start₅ : After-write_end-arg-1 → Start
 start₅ c = start₄ c.before.before.before.before
 
 pub write_tables-creases_at-requires : goal.write_tables-creases_at-requires
@@ -67,7 +68,7 @@ pub write_points-weight_at-requires : goal.write_points-weight_at-requires
 write_points-weight_at-requires c = omega (arith, room (start₃ c), fits (start₃ c))
 
 pub overflow_cast-byte : goal.overflow_cast-byte
-overflow_cast-byte c = omega (arith, c.number.ensures, weight_small (start₃ c.before.before.before.before).args.weight)
+overflow_cast-byte c = omega (arith, c.number.ensures, weight_small (start₃ (goal.at.overflow_cast-byte c).After-write_points-arg-1).args.weight)
 
 pub write_bytes-end_at-requires : goal.write_bytes-end_at-requires
 write_bytes-end_at-requires c = omega (arith, room (start₄ c), fits (start₄ c))
@@ -78,14 +79,9 @@ write_end-requires c = omega (arith, room (start₅ c), fits (start₅ c))
 pub returns : goal.returns
 unfolding later_heads later_payloads
 returns c =
-    let last = c.before.before in
-    let weight = last.before.before.before.before in
-    let points = weight.before.before.before.before.before.before in
-    let creases = points.before.before.before.before in
-    let tables = creases.before.before.before.before in
-    let s = start₁ tables.before in
-    let left₁ = tables_behind Two (cage s) (fits s) tables.write_tables-creases_at.ensures in
-    let left₂ = left_next left₁ (numbered s) refl refl creases.write_bytes-points_at.ensures in
-    let left₃ = points_next s.args.points.now (fits s).shaped.threes left₂ points.write_points-weight_at.ensures in
-    let left₄ = left_next left₃ refl (ap (λ n. n ∷ []) weight.number.ensures) refl weight.write_bytes-end_at.ensures in
-    end_written left₄ last.write_end.ensures
+    let s = start₁ (goal.at.returns c).After-write_tables-arg-1 in
+    let left₁ = tables_behind Two (cage s) (fits s) c.write_tables-creases_at.ensures in
+    let left₂ = left_next left₁ (numbered s) refl refl c.write_bytes-points_at.ensures in
+    let left₃ = points_next s.args.points.now (fits s).shaped.threes left₂ c.write_points-weight_at.ensures in
+    let left₄ = left_next left₃ refl (ap (λ n. n ∷ []) c.number.ensures) refl c.write_bytes-end_at.ensures in
+    end_written left₄ c.write_end.ensures

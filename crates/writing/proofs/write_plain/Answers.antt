@@ -11,9 +11,10 @@ use Rattle.writing.proofs.Accepted.{write_fits}
 use Rattle.writing.proofs.WriteChecks.{needed, write_room}
 use Rattle.writing.proofs.FieldWriting.{tables_behind, points_next, end_written}
 use Rattle.writing.proofs.write_plain.Goals as goal
+use Rattle.writing.proofs.write_plain.Goals.{After-write_end-arg-1, After-write_points-arg-1, After-write_tables-arg-1, Start}
 
 -- what is written; it fits, and there is room
-module _ (s : goal.Start) where
+module _ (s : Start) where
   abbrev cage : Cage
   cage = plain (tables s.args.twin.now s.args.vert.now s.args.edge.now) s.args.points.now
 
@@ -24,13 +25,13 @@ module _ (s : goal.Start) where
   room = write_room One cage _ s.requires
 
 -- the function's entry, from where each field is about to be written
-abbrev start₁ : goal.After-write_tables-arg-1 → goal.Start
+abbrev start₁ : After-write_tables-arg-1 → Start
 start₁ c = c.before.before.before.before.before
 
-abbrev start₂ : goal.After-write_points-arg-1 → goal.Start
+abbrev start₂ : After-write_points-arg-1 → Start
 start₂ c = start₁ c.before.before.before.before
 
-abbrev start₃ : goal.After-write_end-arg-1 → goal.Start
+abbrev start₃ : After-write_end-arg-1 → Start
 start₃ c = start₂ c.before.before.before.before
 
 pub write_tables-points_at-requires : goal.write_tables-points_at-requires
@@ -45,10 +46,7 @@ write_end-requires c = omega (arith, room (start₃ c), fits (start₃ c))
 pub returns : goal.returns
 unfolding later_heads later_payloads
 returns c =
-    let last = c.before.before in
-    let points = last.before.before.before.before in
-    let tables = points.before.before.before.before in
-    let s = start₁ tables.before in
-    let left₁ = tables_behind One (cage s) (fits s) tables.write_tables-points_at.ensures in
-    let left₂ = points_next s.args.points.now (fits s).shaped.threes left₁ points.write_points-end_at.ensures in
-    end_written left₂ last.write_end.ensures
+    let s = start₁ (goal.at.returns c).After-write_tables-arg-1 in
+    let left₁ = tables_behind One (cage s) (fits s) c.write_tables-points_at.ensures in
+    let left₂ = points_next s.args.points.now (fits s).shaped.threes left₁ c.write_points-end_at.ensures in
+    end_written left₂ c.write_end.ensures

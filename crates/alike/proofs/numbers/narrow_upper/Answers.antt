@@ -8,11 +8,12 @@ use lib.Seq.{length-take-le}
 use Rattle.alike.specs.Internal.Alike.{bound}
 use Rattle.alike.proofs.Digits.{GoesBy, keyed_digits, firsts_narrow}
 use Rattle.alike.proofs.numbers.narrow_upper.Goals as goal
+use Rattle.alike.proofs.numbers.narrow_upper.Goals.{After-split, Start}
 
 -- once the numbers are split
-module _ (c : goal.After-split) where
-  abbrev start : goal.Start
-  start = c.before.before.before.before.before
+module _ (c : After-split) where
+  abbrev start : Start
+  start = (goal.at.After-split c).Start
 
   abbrev numbers : List ℕ
   numbers = start.args.numbers.now
@@ -20,8 +21,8 @@ module _ (c : goal.After-split) where
   high_long : length numbers ≤ length c.split.new.upper
   high_long = omega (arith, c.split.auto.upper, start.requires.numbers_len_bound.0)
 
-  low_long : length numbers ≤ length c.split.new.upper.1.0
-  low_long = omega (arith, c.split.auto.upper.1.0, start.requires.numbers_len_bound.0)
+  low_long : length numbers ≤ length c.split.new.low
+  low_long = omega (arith, c.split.auto.low, start.requires.numbers_len_bound.0)
 
   below : (k : ℕ) → k < length numbers → get_or c.split.new.upper k 0 < bound
   below k l = omega (arith, c.split.ensures.before k l, start.requires.by_index k l)
@@ -30,20 +31,17 @@ module _ (c : goal.After-split) where
   itself j k lj lk = (λ e. e, λ e. e)
 
 pub slice_bounds-find_firsts-end : goal.slice_bounds-find_firsts-end
-slice_bounds-find_firsts-end c = sym (length-take-le _ _ (high_long c.before.before.before))
+slice_bounds-find_firsts-end c = sym (length-take-le _ _ (high_long (goal.at.slice_bounds-find_firsts-end c).After-split))
 
 pub slice_bounds-find_firsts-end-2 : goal.slice_bounds-find_firsts-end-2
-slice_bounds-find_firsts-end-2 c = sym (length-take-le _ _ (low_long c.before.before.before.before))
+slice_bounds-find_firsts-end-2 c = sym (length-take-le _ _ (low_long (goal.at.slice_bounds-find_firsts-end-2 c).After-split))
 
 pub find_firsts-requires : goal.find_firsts-requires
-find_firsts-requires c =
-    let s = c.before.before.before.before.before in (
-      keyed_digits _ _ _ _ s.split.ensures (start s).requires.numbers_len_bound.0 (high_long s) (low_long s) (below s) (itself s),
-      omega (arith, length-take-le (length (numbers s)) s.split.new.upper (high_long s), (start s).requires.numbers_len_bound.1),
-    )
+find_firsts-requires c = (
+  keyed_digits _ _ _ _ c.split.ensures (start (goal.at.find_firsts-requires c).After-split).requires.numbers_len_bound.0 (high_long (goal.at.find_firsts-requires c).After-split) (low_long (goal.at.find_firsts-requires c).After-split) (below (goal.at.find_firsts-requires c).After-split) (itself (goal.at.find_firsts-requires c).After-split),
+  omega (arith, length-take-le (length (numbers (goal.at.find_firsts-requires c).After-split)) c.split.new.upper (high_long (goal.at.find_firsts-requires c).After-split), (start (goal.at.find_firsts-requires c).After-split).requires.numbers_len_bound.1),
+)
 
 pub returns : goal.returns
 returns c =
-    let f = c.before.before in
-    let s = f.before.before.before.before.before.before in
-    firsts_narrow _ _ _ _ s.split.ensures (start s).requires.numbers_len_bound.0 (high_long s) (low_long s) (below s) (itself s) _ f.find_firsts.ensures
+    firsts_narrow _ _ _ _ c.split.ensures (start (goal.at.returns c).After-split).requires.numbers_len_bound.0 (high_long (goal.at.returns c).After-split) (low_long (goal.at.returns c).After-split) (below (goal.at.returns c).After-split) (itself (goal.at.returns c).After-split) _ c.find_firsts.ensures

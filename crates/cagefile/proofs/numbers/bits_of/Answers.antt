@@ -10,23 +10,24 @@ use mir.Facts.{to_z-of_z}
 use Rattle.laws.proofs.Signs.{negative, natural}
 use Rattle.cagefile.specs.Numbers.{twos}
 use Rattle.cagefile.proofs.numbers.bits_of.Goals as goal
+use Rattle.cagefile.proofs.numbers.bits_of.Goals.{Else-coordinate-lt0, Start, Then-coordinate-lt0}
 
-module _ (s : goal.Start) where
+module _ (s : Start) where
   same : to_z w32 (of_z w32 s.args.coordinate) ≡ s.args.coordinate
   same = to_z-of_z s.ranges.coordinate
 
 -- a negative coordinate is −(n+1), and −1 minus it is n
-below : (c : goal.Then-coordinate-lt0) → (n : ℕ) × (c.args.coordinate ≡ negsuc n) × (negsuc 0 -ℤ c.args.coordinate ≡ pos n)
-below c = negative _ (rw (same c.before) at c.if-coordinate-lt0.true)
+below : (c : Then-coordinate-lt0) → (n : ℕ) × (c.args.coordinate ≡ negsuc n) × (negsuc 0 -ℤ c.args.coordinate ≡ pos n)
+below c = negative _ (rw (same (goal.at.Then-coordinate-lt0 c).Start) at c.if-coordinate-lt0.true)
 
-flipped : (c : goal.Then-coordinate-lt0) → negsuc 0 -ℤ to_z w32 (of_z w32 c.args.coordinate) ≡ pos (below c).0
-flipped c = ap (λ z. negsuc 0 -ℤ z) (same c.before) ∙ (below c).2
+flipped : (c : Then-coordinate-lt0) → negsuc 0 -ℤ to_z w32 (of_z w32 c.args.coordinate) ≡ pos (below c).0
+flipped c = ap (λ z. negsuc 0 -ℤ z) (same (goal.at.Then-coordinate-lt0 c).Start) ∙ (below c).2
 
-small : (c : goal.Then-coordinate-lt0) → SFits w32 (pos (below c).0)
+small : (c : Then-coordinate-lt0) → SFits w32 (pos (below c).0)
 small c = record { sfits = (rw (below c).1 at c.ranges.coordinate).sfits }
 
-above : (c : goal.Else-coordinate-lt0) → c.args.coordinate ≡ pos (nat_abs c.args.coordinate)
-above c = natural _ (rw (same c.before) at c.if-coordinate-lt0.false)
+above : (c : Else-coordinate-lt0) → c.args.coordinate ≡ pos (nat_abs c.args.coordinate)
+above c = natural _ (rw (same (goal.at.Else-coordinate-lt0 c).Start) at c.if-coordinate-lt0.false)
 
 pub overflow_sub-result : goal.overflow_sub-result
 overflow_sub-result c = rw (flipped c) (small c)
@@ -41,7 +42,7 @@ pub returns-then-coordinate-lt0 : goal.returns-then-coordinate-lt0
 returns-then-coordinate-lt0 c = rw (flipped c, to_z-of_z (small c)) (ap twos (sym (below c).1))
 
 pub overflow_cast-result-2 : goal.overflow_cast-result-2
-overflow_cast-result-2 c = rw (same c.before, above c) (tt, omega (arith, nat_abs-le c.args.coordinate c.ranges.coordinate.sfits))
+overflow_cast-result-2 c = rw (same (goal.at.overflow_cast-result-2 c).Start, above c) (tt, omega (arith, nat_abs-le c.args.coordinate c.ranges.coordinate.sfits))
 
 pub returns : goal.returns
-returns c = rw (same c.before) (ap twos (sym (above c)))
+returns c = rw (same (goal.at.returns c).Start) (ap twos (sym (above c)))

@@ -4,8 +4,9 @@ use mathlib.Core.Path.{refl}
 use native.Mathlib.Omega.{arith}
 use lib.ListN.{get_or}
 use Rattle.cagefile.proofs.numbers.number_at.Goals as goal
+use Rattle.cagefile.proofs.numbers.number_at.Goals.{After-shared_slice_known-2-1}
 
-module _ (c : goal.After-shared_slice_known-2-1) where
+module _ (c : After-shared_slice_known-2-1) where
   low : get_or c.args.file.now c.args.at 0 < 256
   low = (c.shared_slice_known-2-1.given c.args.at).fits
 

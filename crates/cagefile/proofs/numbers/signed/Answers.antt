@@ -9,8 +9,9 @@ use mir.Val.{SFits, to_z}
 use mir.Facts.{to_z-of_z, to_z_pos}
 use Rattle.laws.proofs.Signs.{flip_pos}
 use Rattle.cagefile.proofs.numbers.signed.Goals as goal
+use Rattle.cagefile.proofs.numbers.signed.Goals.{Else-bits-lt2147483648}
 
-module _ (c : goal.Else-bits-lt2147483648) where
+module _ (c : Else-bits-lt2147483648) where
   below : negsuc 0 -ℤ to_z w32 (4294967295 - c.args.bits) ≡ negsuc (4294967295 - c.args.bits)
   below = rw (to_z_pos w32 {n = 4294967295 - c.args.bits} (omega (arith, c.if-bits-lt2147483648.false))) (flip_pos _)
 

@@ -7,12 +7,13 @@ use native.Mathlib.Omega.{arith}
 use lib.ListN.{length, length-set}
 use Rattle.clauses.proofs.Marking.{Going, going_start, going_on, going_end, going_round, going_out}
 use Rattle.clauses.proofs.fans.mark.Goals as goal
+use Rattle.clauses.proofs.fans.mark.Goals.{In-loop-turn}
 
 -- one halfedge at least is left to go
-left : (c : goal.In-loop-turn) → Going c.args.twin.now c.args.along c.args.corner c.args.marks.now c.loop-turn.marks c.loop-turn.at c.loop-turn.turn (suc (length c.args.twin.now - c.loop-turn.turn))
+left : (c : In-loop-turn) → Going c.args.twin.now c.args.along c.args.corner c.args.marks.now c.loop-turn.marks c.loop-turn.at c.loop-turn.turn (suc (length c.args.twin.now - c.loop-turn.turn))
 left c = let e : length c.args.twin.now + 1 - c.loop-turn.turn ≡ suc (length c.args.twin.now - c.loop-turn.turn) = omega arith in rw e at c.loop-turn.invariant.1
 
-inside : (c : goal.In-loop-turn) → c.loop-turn.at < length c.loop-turn.marks
+inside : (c : In-loop-turn) → c.loop-turn.at < length c.loop-turn.marks
 inside c = let r = c.loop-turn.invariant.1 in omega (arith, r.inside, r.long, c.requires.2)
 
 pub loop-turn-init : goal.loop-turn-init
@@ -31,24 +32,22 @@ pub shape_of-marks-then-other : goal.shape_of-marks-then-other
 shape_of-marks-then-other c = simp length-set c.loop-turn.invariant.1.long
 
 pub returns-then-other : goal.returns-then-other
-returns-then-other c = going_end c.requires.2 (left c.before.before) (sym c.step-other.ensures ∙ c.if-other.true)
+returns-then-other c = going_end c.requires.2 (left (goal.at.returns-then-other c).In-loop-turn) (sym c.step-other.ensures ∙ c.if-other.true)
 
 pub shape_of-marks-then-at-corner : goal.shape_of-marks-then-at-corner
 shape_of-marks-then-at-corner c = simp length-set c.loop-turn.invariant.1.long
 
 pub returns-then-at-corner : goal.returns-then-at-corner
 returns-then-at-corner c =
-    let e = c.before.before in
-    let q = e.step-other.ensures in
-    going_round e.requires.2 (left e.before.before) (λ m. e.if-other.false (q ∙ m)) (sym q ∙ sym c.wide-at.ensures ∙ c.if-at-corner.true)
+    let q = c.step-other.ensures in
+    going_round c.requires.2 (left (goal.at.returns-then-at-corner c).In-loop-turn) (λ m. c.if-other.false (q ∙ m)) (sym q ∙ sym c.wide-at.ensures ∙ c.if-at-corner.true)
 
 pub loop-turn-preserved : goal.loop-turn-preserved
 loop-turn-preserved c =
-    let w = c.before in
-    let i = w.loop-turn in
-    let e : length w.args.twin.now + 1 - (i.turn + 1) ≡ length w.args.twin.now - i.turn = omega arith in
-    let q = w.step-other.ensures in
-    (search rules, rw (e, w.wide-at.ensures, q, add-one i.turn) (going_on w.requires.2 (left w.before.before.before) w.requires.0 (λ m. w.if-other.false (q ∙ m))))
+    let i = c.loop-turn in
+    let e : length c.args.twin.now + 1 - (i.turn + 1) ≡ length c.args.twin.now - i.turn = omega arith in
+    let q = c.step-other.ensures in
+    (search rules, rw (e, c.wide-at.ensures, q, add-one i.turn) (going_on c.requires.2 (left (goal.at.loop-turn-preserved c).In-loop-turn) c.requires.0 (λ m. c.if-other.false (q ∙ m))))
 
 pub shape_of-marks : goal.shape_of-marks
 shape_of-marks c = c.loop-turn.invariant.1.long

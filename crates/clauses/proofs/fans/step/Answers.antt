@@ -7,18 +7,19 @@ use Rattle.halfedges.specs.Cage.{NEXT, cell}
 use Rattle.halfedges.proofs.Triangle.{next_below, prev_below}
 use Rattle.clauses.proofs.Marking.{step_along, step_none, step_against}
 use Rattle.clauses.proofs.fans.step.Goals as goal
+use Rattle.clauses.proofs.fans.step.Goals.{After-previous-previous, After-wide}
 
-inside : (c : goal.After-previous-previous) → c.previous-previous.result < length c.args.twin.now
+inside : (c : After-previous-previous) → c.previous-previous.result < length c.args.twin.now
 inside c = omega (arith, c.previous-previous.ensures, prev_below c.requires.0.whole c.requires.1)
 
-twin_inside : (c : goal.After-wide) → c.wide.result < length c.args.twin.now
+twin_inside : (c : After-wide) → c.wide.result < length c.args.twin.now
 twin_inside c = omega (arith, c.wide.ensures, c.requires.0.paired.below _ c.requires.1 c.if-t.false)
 
 pub offset_bounds-twin-previous : goal.offset_bounds-twin-previous
 offset_bounds-twin-previous c = omega (arith, inside c)
 
 pub bounds-twin-previous : goal.bounds-twin-previous
-bounds-twin-previous c = inside c.before
+bounds-twin-previous c = inside (goal.at.bounds-twin-previous c).After-previous-previous
 
 pub returns-then-along : goal.returns-then-along
 returns-then-along c = ap (cell c.args.twin.now) c.previous-previous.ensures ∙ step_along _ _ _ c.if-along.true
@@ -30,7 +31,7 @@ pub next-requires : goal.next-requires
 next-requires c = omega (arith, c.wide.ensures, c.requires.0.few, twin_inside c)
 
 pub overflow_cast-result : goal.overflow_cast-result
-overflow_cast-result c = omega (arith, c.next.ensures, c.wide.ensures, c.requires.0.few, next_below c.requires.0.whole (twin_inside c.before))
+overflow_cast-result c = omega (arith, c.next.ensures, c.wide.ensures, c.requires.0.few, next_below c.requires.0.whole (twin_inside (goal.at.overflow_cast-result c).After-wide))
 
 pub returns : goal.returns
 returns c = c.next.ensures ∙ ap NEXT c.wide.ensures ∙ step_against _ _ _ c.if-along.false c.if-t.false

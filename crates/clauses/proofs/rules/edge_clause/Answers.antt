@@ -8,18 +8,19 @@ use Rattle.halfedges.specs.Cage.{cell, E}
 use Rattle.tables.proofs.EdgeCount.{edges_at_most}
 use Rattle.clauses.proofs.Broken.{edge_past_lem, edge_differs_lem, Alike, alone, paired, stranger_below, edge_shared_lem}
 use Rattle.clauses.proofs.rules.edge_clause.Goals as goal
+use Rattle.clauses.proofs.rules.edge_clause.Goals.{After-wide-other, Else-edges-wide, Joined-t, Start}
 
 -- where the edge is in range
-module _ (i : goal.Else-edges-wide) where
-  abbrev start : goal.Start
-  start = i.before.before.before.before.before.before
+module _ (i : Else-edges-wide) where
+  abbrev start : Start
+  start = (goal.at.Else-edges-wide i).Start
 
   low : cell start.args.edge.now start.args.halfedge < E start.args.twin.now
   low = rw (i.wide.ensures, i.count_edges-edges.ensures) at i.if-edges-wide.false
 
-twin_inside : (c : goal.After-wide-other) → c.wide-other.result < length (start c.before.before.before).args.edge.now
+twin_inside : (c : After-wide-other) → c.wide-other.result < length (start (goal.at.After-wide-other c).Else-edges-wide).args.edge.now
 twin_inside c =
-    let s = start c.before.before.before in
+    let s = start (goal.at.After-wide-other c).Else-edges-wide in
     omega (arith, c.wide-other.ensures, s.requires.0.long, s.requires.0.paired.below _ s.requires.1.below c.if-t.true)
 
 pub overflow_cast-result : goal.overflow_cast-result
@@ -34,19 +35,18 @@ pub offset_bounds-edge-other : goal.offset_bounds-edge-other
 offset_bounds-edge-other c = omega (arith, twin_inside c)
 
 pub bounds-edge-other : goal.bounds-edge-other
-bounds-edge-other c = twin_inside c.before
+bounds-edge-other c = twin_inside (goal.at.bounds-edge-other c).After-wide-other
 
 pub returns-then-twins-number : goal.returns-then-twins-number
 returns-then-twins-number c =
-    let w = c.before.before in
-    let s = start w.before.before.before in
-    rw w.wide-other.ensures
-    (edge_differs_lem _ _ _ (low w.before.before.before) w.if-t.true (λ e. c.if-twins-number.true (ap (cell s.args.edge.now) w.wide-other.ensures ∙ e)))
+    let s = start (goal.at.returns-then-twins-number c).Else-edges-wide in
+    rw c.wide-other.ensures
+    (edge_differs_lem _ _ _ (low (goal.at.returns-then-twins-number c).Else-edges-wide) c.if-t.true (λ e. c.if-twins-number.true (ap (cell s.args.edge.now) c.wide-other.ensures ∙ e)))
 
 -- where the twin does not differ
-module _ (j : goal.Joined-t) where
-  abbrev begun : goal.Start
-  begun = start j.before.before
+module _ (j : Joined-t) where
+  abbrev begun : Start
+  begun = start (goal.at.Joined-t j).Else-edges-wide
 
   alike : Alike begun.args.twin.now begun.args.edge.now begun.args.halfedge
   alike =
@@ -57,11 +57,9 @@ module _ (j : goal.Joined-t) where
 
 pub overflow_cast-result-2 : goal.overflow_cast-result-2
 overflow_cast-result-2 c =
-    let j = c.before in
-    let s = begun j in
-    omega (arith, c.lowest_stranger-stranger.ensures, s.requires.0.few, s.requires.0.long, stranger_below _ _ _ (low j.before.before) s.requires.1.broken (alike j))
+    let s = begun (goal.at.overflow_cast-result-2 c).Joined-t in
+    omega (arith, c.lowest_stranger-stranger.ensures, s.requires.0.few, s.requires.0.long, stranger_below _ _ _ (low (goal.at.overflow_cast-result-2 c).Else-edges-wide) s.requires.1.broken (alike (goal.at.overflow_cast-result-2 c).Joined-t))
 
 pub returns : goal.returns
 returns c =
-    let j = c.before in
-    rw c.lowest_stranger-stranger.ensures (edge_shared_lem _ _ _ (low j.before.before) (begun j).requires.1.broken (alike j))
+    rw c.lowest_stranger-stranger.ensures (edge_shared_lem _ _ _ (low (goal.at.returns c).Else-edges-wide) (begun (goal.at.returns c).Joined-t).requires.1.broken (alike (goal.at.returns c).Joined-t))

@@ -5,11 +5,12 @@ use lib.ListN.{length}
 use Rattle.halfedges.specs.Cage.{cell}
 use Rattle.clauses.proofs.Broken.{twin_past_lem, twin_itself_lem, twin_lost}
 use Rattle.clauses.proofs.rules.twin_clause.Goals as goal
+use Rattle.clauses.proofs.rules.twin_clause.Goals.{Else-twin-other, Start}
 
 -- where the twin is in the table
-module _ (i : goal.Else-twin-other) where
-  abbrev start : goal.Start
-  start = i.before.before.before.before
+module _ (i : Else-twin-other) where
+  abbrev start : Start
+  start = (goal.at.Else-twin-other i).Start
 
   same : i.wide-other.result ≡ cell start.args.twin.now start.args.halfedge
   same = i.wide-other.ensures
@@ -22,9 +23,8 @@ returns-then-twin-other c =
     twin_past_lem _ _ c.requires.1.broken (rw c.wide-other.ensures at c.if-twin-other.true)
 
 pub returns-then-other-halfedge : goal.returns-then-other-halfedge
-returns-then-other-halfedge c = let i = c.before in twin_itself_lem _ _ (start i).requires.1.broken (inside i) (sym (same i) ∙ c.if-other-halfedge.true)
+returns-then-other-halfedge c = twin_itself_lem _ _ (start (goal.at.returns-then-other-halfedge c).Else-twin-other).requires.1.broken (inside (goal.at.returns-then-other-halfedge c).Else-twin-other) (sym (same (goal.at.returns-then-other-halfedge c).Else-twin-other) ∙ c.if-other-halfedge.true)
 
 pub returns : goal.returns
 returns c =
-    let i = c.before.before in
-    rw (same i) (twin_lost _ _ (start i).requires.1.broken (inside i) (λ e. c.if-other-halfedge.false (same i ∙ e)))
+    rw (same (goal.at.returns c).Else-twin-other) (twin_lost _ _ (start (goal.at.returns c).Else-twin-other).requires.1.broken (inside (goal.at.returns c).Else-twin-other) (λ e. c.if-other-halfedge.false (same (goal.at.returns c).Else-twin-other ∙ e)))

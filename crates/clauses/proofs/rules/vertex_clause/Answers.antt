@@ -8,18 +8,19 @@ use Rattle.halfedges.specs.Cage.{NEXT, cell}
 use Rattle.halfedges.proofs.Triangle.{next_below}
 use Rattle.clauses.proofs.Broken.{vertex_past_lem, vertex_alike, end_has_twin, vertex_differ}
 use Rattle.clauses.proofs.rules.vertex_clause.Goals as goal
+use Rattle.clauses.proofs.rules.vertex_clause.Goals.{After-next-next, After-wide-other, Else-vertex-end, Else-vertices-wide, Start}
 
 -- where the vertex is in range
-module _ (i : goal.Else-vertices-wide) where
-  abbrev start : goal.Start
-  start = i.before.before.before.before.before
+module _ (i : Else-vertices-wide) where
+  abbrev start : Start
+  start = (goal.at.Else-vertices-wide i).Start
 
   low : cell start.args.vert.now start.args.halfedge < start.args.vertices
   low = rw i.wide.ensures at i.if-vertices-wide.false
 
-module _ (n : goal.After-next-next) where
-  abbrev begun : goal.Start
-  begun = start n.before
+module _ (n : After-next-next) where
+  abbrev begun : Start
+  begun = start (goal.at.After-next-next n).Else-vertices-wide
 
   next-inside : n.next-next.result < length begun.args.vert.now
   next-inside = omega (arith, n.next-next.ensures, begun.requires.for_vertices.0.long, next_below begun.requires.for_vertices.0.whole begun.requires.broken_at.below)
@@ -28,18 +29,17 @@ module _ (n : goal.After-next-next) where
   end = ap (cell begun.args.vert.now) n.next-next.ensures
 
 -- where the two ends differ
-module _ (i : goal.Else-vertex-end) where
-  abbrev after_next : goal.After-next-next
-  after_next = i.before.before
+module _ (i : Else-vertex-end) where
+  abbrev after_next : After-next-next
+  after_next = (goal.at.Else-vertex-end i).After-next-next
 
   apart : cell (begun after_next).args.vert.now (begun after_next).args.halfedge ≢ cell (begun after_next).args.vert.now (NEXT (begun after_next).args.halfedge)
   apart e = i.if-vertex-end.false (e ∙ sym (end after_next))
 
-twin_inside : (c : goal.After-wide-other) → c.wide-other.result < length (begun (after_next c.before.before)).args.vert.now
+twin_inside : (c : After-wide-other) → c.wide-other.result < length (begun (after_next (goal.at.After-wide-other c).Else-vertex-end)).args.vert.now
 twin_inside c =
-    let i = c.before.before in
-    let s = begun (after_next i) in
-    omega (arith, c.wide-other.ensures, s.requires.for_vertices.0.long, s.requires.for_vertices.0.paired.below _ s.requires.broken_at.below (end_has_twin _ _ _ _ (low (after_next i).before) s.requires.broken_at.broken (apart i)))
+    let s = begun (after_next (goal.at.After-wide-other c).Else-vertex-end) in
+    omega (arith, c.wide-other.ensures, s.requires.for_vertices.0.long, s.requires.for_vertices.0.paired.below _ s.requires.broken_at.below (end_has_twin _ _ _ _ (low (after_next (goal.at.After-wide-other c).Else-vertex-end).before) s.requires.broken_at.broken (apart (goal.at.After-wide-other c).Else-vertex-end)))
 
 pub returns-then-vertices-wide : goal.returns-then-vertices-wide
 returns-then-vertices-wide c = vertex_past_lem _ _ _ _ (rw c.wide.ensures at c.if-vertices-wide.true)
@@ -48,22 +48,21 @@ pub offset_bounds-vert-next : goal.offset_bounds-vert-next
 offset_bounds-vert-next c = omega (arith, next-inside c)
 
 pub bounds-vert-next : goal.bounds-vert-next
-bounds-vert-next c = next-inside c.before
+bounds-vert-next c = next-inside (goal.at.bounds-vert-next c).After-next-next
 
 pub overflow_cast-result-then-vertex-end : goal.overflow_cast-result-then-vertex-end
-overflow_cast-result-then-vertex-end c = let n = c.before.before in omega (arith, next-inside n, (begun n).requires.for_vertices.0.long, (begun n).requires.for_vertices.1)
+overflow_cast-result-then-vertex-end c = omega (arith, next-inside (goal.at.overflow_cast-result-then-vertex-end c).After-next-next, (begun (goal.at.overflow_cast-result-then-vertex-end c).After-next-next).requires.for_vertices.0.long, (begun (goal.at.overflow_cast-result-then-vertex-end c).After-next-next).requires.for_vertices.1)
 
 pub returns-then-vertex-end : goal.returns-then-vertex-end
-returns-then-vertex-end c = let n = c.before.before in rw n.next-next.ensures (vertex_alike _ _ _ _ (low n.before) (c.if-vertex-end.true ∙ end n))
+returns-then-vertex-end c = rw c.next-next.ensures (vertex_alike _ _ _ _ (low (goal.at.returns-then-vertex-end c).Else-vertices-wide) (c.if-vertex-end.true ∙ end (goal.at.returns-then-vertex-end c).After-next-next))
 
 pub offset_bounds-vert-other : goal.offset_bounds-vert-other
 offset_bounds-vert-other c = omega (arith, twin_inside c)
 
 pub bounds-vert-other : goal.bounds-vert-other
-bounds-vert-other c = twin_inside c.before
+bounds-vert-other c = twin_inside (goal.at.bounds-vert-other c).After-wide-other
 
 pub returns : goal.returns
 returns c =
-    let i = c.before.before.before in
-    let n = after_next i in
-    rw (c.wide-other.ensures, n.next-next.ensures) (vertex_differ _ _ _ _ (low n.before) (begun n).requires.broken_at.broken (apart i))
+    let n = after_next (goal.at.returns c).Else-vertex-end in
+    rw (c.wide-other.ensures, n.next-next.ensures) (vertex_differ _ _ _ _ (low n.before) (begun n).requires.broken_at.broken (apart (goal.at.returns c).Else-vertex-end))

@@ -9,22 +9,20 @@ use Rattle.halfedges.specs.Refusals.{CREASE, given_at}
 use Rattle.creases.specs.Creases.{bad_crease}
 use Rattle.creases.proofs.Borders.{marked_none}
 use Rattle.creases.proofs.check.check_creases.Goals as goal
+use Rattle.creases.proofs.check.check_creases.Goals.{Start}
 
 -- each edge has a mark
-enough : (s : goal.Start) → E s.args.twin.now ≤ most_halfedges
+enough : (s : Start) → E s.args.twin.now ≤ most_halfedges
 unfolding E
 enough s = omega (arith, s.requires.few, count_at_most (length s.args.twin.now) (above s.args.twin.now))
 
 pub mark_borders-requires : goal.mark_borders-requires
 mark_borders-requires c =
-    let s = c.before.before.before.before in
-    (record { same = s.requires.same; below = λ h l. omega (arith, s.requires.below h l, enough s) }, marked_none _ _ most_halfedges)
+    (record { same = c.requires.same; below = λ h l. omega (arith, c.requires.below h l, enough (goal.at.mark_borders-requires c).Start) }, marked_none _ _ most_halfedges)
 
 pub first_bad_crease-requires : goal.first_bad_crease-requires
 first_bad_crease-requires c =
-    let m = c.before.before in
-    let s = m.before.before.before.before.before in
-    (m.mark_borders.ensures, omega (arith, s.requires.long, enough s, m.mark_borders.auto.edge.1.0))
+    (c.mark_borders.ensures, omega (arith, c.requires.long, enough (goal.at.first_bad_crease-requires c).Start, c.mark_borders.auto.borders))
 
 pub returns : goal.returns
 returns c =

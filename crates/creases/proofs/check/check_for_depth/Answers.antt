@@ -13,20 +13,21 @@ use Rattle.tables.proofs.TableChecks.{for_places, for_fans}
 use Rattle.creases.specs.Check.{creased_table_checks}
 use Rattle.creases.proofs.CreaseChecks.{after6, after_length, after3, in_parts, length_stops, length_passes, for_creases}
 use Rattle.creases.proofs.check.check_for_depth.Goals as goal
+use Rattle.creases.proofs.check.check_for_depth.Goals.{Else-creases-count_edges, Else-number-ne0, Else-number-ne0-2, Start}
 
-abbrev cage : goal.Start → Tables
+abbrev cage : Start → Tables
 cage s = tables s.args.twin.now s.args.vert.now s.args.edge.now
 
 -- what is left to check decides
-abbrev Decides : (Tables → List ℕ → ℕ → List Verdict) → goal.Start → Type 0
+abbrev Decides : (Tables → List ℕ → ℕ → List Verdict) → Start → Type 0
 Decides left s =
     first (left (cage s) s.args.creases.now s.args.vertices)
     ≡ first (creased_table_checks (cage s) s.args.creases.now s.args.vertices s.args.depth)
 
 -- 1 to 3 are passed
-module _ (i : goal.Else-number-ne0) where
-  abbrev start : goal.Start
-  start = i.before.before.before.before.before.before.before
+module _ (i : Else-number-ne0) where
+  abbrev start : Start
+  start = (goal.at.Else-number-ne0 i).Start
 
   paired : (told i.check_pairs-pairs.result).number ≡ 0
   paired = sym i.number.ensures ∙ i.if-number-ne0.false
@@ -38,16 +39,16 @@ module _ (i : goal.Else-number-ne0) where
   after_pairs = rw (in_parts _ _ _ _) (sym (first_passes _ _ (told i.check_pairs-pairs.result) i.check_pairs-pairs.ensures paired))
 
 -- the table has a number of each edge
-after_length_lem : (i : goal.Else-creases-count_edges) → Decides after_length (start i.before.before)
-after_length_lem i = length_passes _ _ _ i.count_edges.ensures i.if-creases-count_edges.false ∙ after_pairs i.before.before
+after_length_lem : (i : Else-creases-count_edges) → Decides after_length (start (goal.at.Else-creases-count_edges i).Else-number-ne0)
+after_length_lem i = length_passes _ _ _ i.count_edges.ensures i.if-creases-count_edges.false ∙ after_pairs (goal.at.Else-creases-count_edges i).Else-number-ne0
 
 -- 4 to 6 are passed
-module _ (i : goal.Else-number-ne0-2) where
-  abbrev sized : goal.Else-creases-count_edges
-  sized = i.before.before.before
+module _ (i : Else-number-ne0-2) where
+  abbrev sized : Else-creases-count_edges
+  sized = (goal.at.Else-number-ne0-2 i).Else-creases-count_edges
 
-  abbrev begun : goal.Start
-  begun = start sized.before.before
+  abbrev begun : Start
+  begun = start (goal.at.Else-creases-count_edges sized).Else-number-ne0
 
   placed : (told i.check_places-places.result).number ≡ 0
   placed = sym i.number-2.ensures ∙ i.if-number-ne0-2.false
@@ -63,15 +64,14 @@ returns-then-number-ne0 c =
     rw (in_parts _ _ _ _) (first_stops _ _ (told c.check_pairs-pairs.result) c.check_pairs-pairs.ensures (λ z. c.if-number-ne0.true (c.number.ensures ∙ z)))
 
 pub returns-then-creases-count_edges : goal.returns-then-creases-count_edges
-returns-then-creases-count_edges c = length_stops _ _ _ c.count_edges.ensures c.if-creases-count_edges.true ∙ after_pairs c.before.before
+returns-then-creases-count_edges c = length_stops _ _ _ c.count_edges.ensures c.if-creases-count_edges.true ∙ after_pairs (goal.at.returns-then-creases-count_edges c).Else-number-ne0
 
 pub check_places-places-requires : goal.check_places-places-requires
-check_places-places-requires c = for_rest c.before.before
+check_places-places-requires c = for_rest (goal.at.check_places-places-requires c).Else-number-ne0
 
 pub returns-then-number-ne0-2 : goal.returns-then-number-ne0-2
 returns-then-number-ne0-2 c =
-    let p = c.before.before in
-    first_stops _ _ (told p.check_places-places.result) p.check_places-places.ensures (λ z. c.if-number-ne0-2.true (c.number-2.ensures ∙ z)) ∙ after_length_lem p.before
+    first_stops _ _ (told c.check_places-places.result) c.check_places-places.ensures (λ z. c.if-number-ne0-2.true (c.number-2.ensures ∙ z)) ∙ after_length_lem (goal.at.returns-then-number-ne0-2 c).Else-creases-count_edges
 
 pub check_creases-numbers-requires : goal.check_creases-numbers-requires
 check_creases-numbers-requires c =
@@ -80,18 +80,15 @@ check_creases-numbers-requires c =
 
 pub returns-then-number-ne0-3 : goal.returns-then-number-ne0-3
 returns-then-number-ne0-3 c =
-    let p = c.before.before in
-    answered p.check_creases-numbers.ensures c.number-3.ensures _ c.if-number-ne0-3.true ∙ after_places p.before
+    answered c.check_creases-numbers.ensures c.number-3.ensures _ c.if-number-ne0-3.true ∙ after_places (goal.at.returns-then-number-ne0-3 c).Else-number-ne0-2
 
 pub check_fans-requires : goal.check_fans-requires
 check_fans-requires c =
-    let i = c.before.before.before in
-    for_fans _ _ (for_rest (sized i).before.before) (places_done i)
+    for_fans _ _ (for_rest (sized (goal.at.check_fans-requires c).Else-number-ne0-2).before.before) (places_done (goal.at.check_fans-requires c).Else-number-ne0-2)
 
 pub returns : goal.returns
 returns c =
-    let n = c.before.before in
     c.check_fans.ensures
     ∙ given_alone _ _ FAN (λ k. omega arith)
-    ∙ passed_on n.check_creases-numbers.ensures n.number-3.ensures _ c.if-number-ne0-3.false
-    ∙ after_places n.before.before
+    ∙ passed_on c.check_creases-numbers.ensures c.number-3.ensures _ c.if-number-ne0-3.false
+    ∙ after_places (goal.at.returns c).Else-number-ne0-2

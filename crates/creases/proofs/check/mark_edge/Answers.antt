@@ -5,11 +5,12 @@ use lib.ListN.{length}
 use borrow.Author.Tests.{eq-eqb, ne_eqb}
 use Rattle.creases.proofs.Borders.{twin_kept, edge_marked}
 use Rattle.creases.proofs.check.mark_edge.Goals as goal
+use Rattle.creases.proofs.check.mark_edge.Goals.{After-wide-number, Start}
 
 -- the edge has a mark
-module _ (c : goal.After-wide-number) where
-  abbrev start : goal.Start
-  start = c.before.before.before.before.before.before.before
+module _ (c : After-wide-number) where
+  abbrev start : Start
+  start = (goal.at.After-wide-number c).Start
 
   number_in : c.wide-number.result < length start.args.borders.now
   number_in = omega (arith, c.wide-number.ensures, start.requires.0.below _ start.requires.1)

@@ -8,9 +8,10 @@ use Rattle.edgepoints.specs.declared.edges.Triangle.{Triangle}
 use Rattle.edgepoints.specs.Internal.Edges.{Asks, step_edge, triangle_of, border_among, in_turn, AskedInTurn}
 use Rattle.edgepoints.proofs.Writes.{inner_turns, inner-asked}
 use Rattle.edgepoints.proofs.edges.write_triangle.Goals as goal
+use Rattle.edgepoints.proofs.edges.write_triangle.Goals.{After-read_triangle-read, Else-border_among, Start}
 
-module _ (a : goal.After-read_triangle-read) where
-  abbrev s : goal.Start
+module _ (a : After-read_triangle-read) where
+  abbrev s : Start
   s = a.before.before.before.before.before
 
   abbrev n : ℕ
@@ -28,22 +29,19 @@ module _ (a : goal.After-read_triangle-read) where
   steps_are : in_turn (step_edge n) read l ≡ in_turn (step_edge n) (triangle_of s.args.twin.now s.args.vert.now s.args.edge.now l s.args.triangle) l
   steps_are = ap (λ x. in_turn (step_edge n) x l) a.read_triangle-read.ensures
 
-none : (e : goal.Else-border_among) → border_among (read e.before.before) ≡ false
+none : (e : Else-border_among) → border_among (read (goal.at.Else-border_among e).After-read_triangle-read) ≡ false
 none e = sym e.border_among.ensures ∙ e.if-border_among.false
 
 pub write_any-requires : goal.write_any-requires
-write_any-requires c = asked c.before.before.before
+write_any-requires c = asked (goal.at.write_any-requires c).After-read_triangle-read
 
 pub returns-then-border_among : goal.returns-then-border_among
-returns-then-border_among c = c.write_any.ensures ∙ steps_are c.before.before.before.before.before
+returns-then-border_among c = c.write_any.ensures ∙ steps_are (goal.at.returns-then-border_among c).After-read_triangle-read
 
 pub write_inner-requires : goal.write_inner-requires
 write_inner-requires c =
-    let a = c.before.before.before in
-    inner-asked (n a) (read a) (l a) (none c.before) (asked a)
+    inner-asked (n (goal.at.write_inner-requires c).After-read_triangle-read) (read (goal.at.write_inner-requires c).After-read_triangle-read) (l (goal.at.write_inner-requires c).After-read_triangle-read) (none (goal.at.write_inner-requires c).Else-border_among) (asked (goal.at.write_inner-requires c).After-read_triangle-read)
 
 pub returns : goal.returns
 returns c =
-    let e = c.before.before.before in
-    let a = e.before.before in
-    c.write_inner.ensures ∙ inner_turns (n a) (read a) (l a) (none e) ∙ steps_are a
+    c.write_inner.ensures ∙ inner_turns (n (goal.at.returns c).After-read_triangle-read) (read (goal.at.returns c).After-read_triangle-read) (l (goal.at.returns c).After-read_triangle-read) (none (goal.at.returns c).Else-border_among) ∙ steps_are (goal.at.returns c).After-read_triangle-read

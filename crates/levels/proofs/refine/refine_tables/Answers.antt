@@ -6,7 +6,7 @@ use Rattle.levels.proofs.refine.refine_tables.Goals as goal
 pub returns-then-number-ne0 : goal.returns-then-number-ne0
 returns-then-number-ne0 c =
     let r = refine_refused _ _ _ _ c.plan-answer.result c.plan-answer.ensures c.number.ensures c.if-number-ne0.true in
-    (c.refused.ensures ∙ r.0, r.1)
+    record { result_value = c.refused.ensures ∙ r.0; edge_after = r.1 }
 
 pub fill-requires : goal.fill-requires
 fill-requires c =

@@ -7,12 +7,13 @@ use Rattle.tables.specs.Tables.{tables}
 use Rattle.passes.specs.Internal.Levels.{with_levels}
 use Rattle.passes.proofs.Climbed.{climb_start, climb_asks, climb_fits, climb_on}
 use Rattle.passes.proofs.refine.climb.Goals as goal
+use Rattle.passes.proofs.refine.climb.Goals.{After-next-level, After-struct_known-1, At-loop-level, Start}
 
-abbrev start : goal.At-loop-level → goal.Start
+abbrev start : At-loop-level → Start
 start b = b.before.before.before.before.before.before
 
 -- the next level has one level less after it
-left_next : (c : goal.After-next-level) → c.next-level.result.left ≡ c.loop-level.level.left - 1
+left_next : (c : After-next-level) → c.next-level.result.left ≡ c.loop-level.level.left - 1
 left_next c = ap (λ x. x.left) c.next-level.ensures
 
 pub loop-level-init : goal.loop-level-init
@@ -20,27 +21,23 @@ loop-level-init c = (omega arith, refl, climb_start c.args.weight _ _ _ _ _ c.re
 
 pub refine_level-requires : goal.refine_level-requires
 refine_level-requires c =
-    let b = c.before.before.before in
-    let s = start b in
-    rw s.requires.listed (climb_asks s.args.weight _ _ _ _ _ s.requires.ready b.loop-level.invariant.2 (omega arith))
+    let s = start (goal.at.refine_level-requires c).After-struct_known-1 in
+    rw s.requires.listed (climb_asks s.args.weight _ _ _ _ _ s.requires.ready c.loop-level.invariant.2 (omega arith))
 
 pub next-level-requires : goal.next-level-requires
 next-level-requires c =
-    let b = c.before.before.before.before.before in
-    climb_fits (start b).args.weight _ _ _ _ _ (start b).requires.ready b.loop-level.invariant.2 (omega arith) (omega (arith, (start b).well-formed.1.1.1.1.0)) (omega (arith, (start b).well-formed.1.1.1.1.1.1.1))
+    climb_fits (start (goal.at.next-level-requires c).After-struct_known-1).args.weight _ _ _ _ _ (start (goal.at.next-level-requires c).After-struct_known-1).requires.ready c.loop-level.invariant.2 (omega arith) (omega (arith, (start (goal.at.next-level-requires c).After-struct_known-1).well-formed.1.1.1.1.0)) (omega (arith, (start (goal.at.next-level-requires c).After-struct_known-1).well-formed.1.1.1.1.1.1.1))
 
 pub loop-level-smaller : goal.loop-level-smaller
 loop-level-smaller c = omega (arith, left_next c)
 
 pub loop-level-preserved : goal.loop-level-preserved
 loop-level-preserved c =
-    let b = c.before.before.before.before.before.before in
-    (omega (arith, left_next c, b.loop-level.invariant.0), search rules, climb_on (start b).args.weight _ _ _ _ _ (start b).requires.ready b.loop-level.invariant.2 (omega arith) c.next-level.ensures c.refine_level.ensures (omega (arith, left_next c, b.loop-level.invariant.0)))
+    (omega (arith, left_next c, c.loop-level.invariant.0), search rules, climb_on (start (goal.at.loop-level-preserved c).After-struct_known-1).args.weight _ _ _ _ _ (start (goal.at.loop-level-preserved c).After-struct_known-1).requires.ready c.loop-level.invariant.2 (omega arith) c.next-level.ensures c.refine_level.ensures (omega (arith, left_next c, c.loop-level.invariant.0)))
 
 pub returns : goal.returns
 returns c =
-    let b = c.before.before in
-    let s = start b in
-    let e : (start b).args.cage.left - b.loop-level.level.left ≡ (start b).args.cage.left = omega arith in
-    b.loop-level.invariant.2.is_table
+    let s = start (goal.at.returns c).At-loop-level in
+    let e : (start (goal.at.returns c).At-loop-level).args.cage.left - c.loop-level.level.left ≡ (start (goal.at.returns c).At-loop-level).args.cage.left = omega arith in
+    c.loop-level.invariant.2.is_table
     ∙ ap (λ d. with_levels s.args.weight s.args.cage.counts d (tables s.args.twin.now s.args.vert.now s.args.edge.now) s.args.creases.now s.args.points.now) e

@@ -9,13 +9,14 @@ use Rattle.tables.specs.Tables.{tables}
 use Rattle.seams.proofs.Counted.{counted_lists}
 use Rattle.passes.specs.Internal.Levels.{cage_of, with_seams}
 use Rattle.passes.proofs.refine.count_and_draw.Goals as goal
+use Rattle.passes.proofs.refine.count_and_draw.Goals.{After-count_creases, Start}
 
 -- the tally, once the creases are counted
-module _ (k : goal.After-count_creases) where
-  abbrev s : goal.Start
+module _ (k : After-count_creases) where
+  abbrev s : Start
   s = k.before.before.before.before.before.before.before.before.before
 
-  enough : s.args.cage.vertices ≤ length k.count_creases.last.1.1.1.1.1.0
+  enough : s.args.cage.vertices ≤ length k.count_creases.new.counts
   enough = let small = s.requires.0.few in search rules
 
 pub slice_bounds-count_creases-end : goal.slice_bounds-count_creases-end
@@ -28,12 +29,11 @@ pub slice_bounds-count_creases-end-3 : goal.slice_bounds-count_creases-end-3
 slice_bounds-count_creases-end-3 c = sym (length-take-le c.args.cage.halfedges c.args.edge.now c.requires.0.in_edge)
 
 pub slice_bounds-draw_level-end : goal.slice_bounds-draw_level-end
-slice_bounds-draw_level-end c = let k = c.before.before in sym (length-take-le (s k).args.cage.vertices k.count_creases.new.vert.1.1.1.1.0 (enough k))
+slice_bounds-draw_level-end c = sym (length-take-le (s (goal.at.slice_bounds-draw_level-end c).After-count_creases).args.cage.vertices c.count_creases.new.counts (enough (goal.at.slice_bounds-draw_level-end c).After-count_creases))
 
 pub returns : goal.returns
 returns c =
-    let k = c.before.before.before.before.before in
-    let a = (s k).args in
+    let a = (s (goal.at.returns c).After-count_creases).args in
     c.draw_level.ensures
     ∙ ap (λ counts. with_seams a.creases.now counts a.level (tables [] a.vert.now a.edge.now) a.points-1.now)
-    (counted_lists a.level.number (cage_of a.cage (tables a.twin.now a.vert.now a.edge.now)) a.creases.now a.cage.vertices k.count_creases.new.vert.1.1.1.1.0 (enough k) k.count_creases.ensures)
+    (counted_lists a.level.number (cage_of a.cage (tables a.twin.now a.vert.now a.edge.now)) a.creases.now a.cage.vertices c.count_creases.new.counts (enough (goal.at.returns c).After-count_creases) c.count_creases.ensures)

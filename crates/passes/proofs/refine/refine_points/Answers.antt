@@ -6,13 +6,14 @@ use lib.Seq.{length-take-le}
 use borrow.Author.Rules.{rules}
 use Rattle.points.proofs.Ends.{tally_lists}
 use Rattle.passes.proofs.refine.refine_points.Goals as goal
+use Rattle.passes.proofs.refine.refine_points.Goals.{After-count_numbers, Start}
 
 -- the tally, once the corners are counted
-module _ (k : goal.After-count_numbers) where
-  abbrev s : goal.Start
+module _ (k : After-count_numbers) where
+  abbrev s : Start
   s = k.before.before.before.before.before.before.before
 
-  enough : s.args.table.vertices ≤ length k.count_numbers.last.1.0
+  enough : s.args.table.vertices ≤ length k.count_numbers.new.tally
   enough = let small = s.requires.counts.vertices in search rules
 
 pub slice_bounds-count_numbers-end : goal.slice_bounds-count_numbers-end
@@ -23,9 +24,8 @@ count_numbers-requires c =
     (rw (length-take-le c.args.table.halfedges c.args.vert.now c.requires.cage_long) c.requires.counts.halfedges, record { each = λ x l. get_or-replicate 3072 x 0 0 l })
 
 pub slice_bounds-climb-end : goal.slice_bounds-climb-end
-slice_bounds-climb-end c = let k = c.before.before in sym (length-take-le (s k).args.table.vertices k.count_numbers.new.tally (enough k))
+slice_bounds-climb-end c = sym (length-take-le (s (goal.at.slice_bounds-climb-end c).After-count_numbers).args.table.vertices c.count_numbers.new.tally (enough (goal.at.slice_bounds-climb-end c).After-count_numbers))
 
 pub climb-requires : goal.climb-requires
 climb-requires c =
-    let k = c.before.before.before in
-    record { first = refl; ready = (s k).requires; listed = tally_lists (take (s k).args.table.halfedges (s k).args.vert.now) (s k).args.table.vertices k.count_numbers.new.tally (enough k) k.count_numbers.ensures }
+    record { first = refl; ready = (s (goal.at.climb-requires c).After-count_numbers).requires; listed = tally_lists (take (s (goal.at.climb-requires c).After-count_numbers).args.table.halfedges (s (goal.at.climb-requires c).After-count_numbers).args.vert.now) (s (goal.at.climb-requires c).After-count_numbers).args.table.vertices c.count_numbers.new.tally (enough (goal.at.climb-requires c).After-count_numbers) c.count_numbers.ensures }

@@ -11,8 +11,9 @@ use Rattle.laws.proofs.Integers.{nat_abs_add, nat_abs_mul, small_fits, back_of}
 use Rattle.points.specs.Operations.{most_coordinate}
 use Rattle.points.proofs.Numerators.{V3_six}
 use Rattle.points.proofs.rules.added_vertex.Goals as goal
+use Rattle.points.proofs.rules.added_vertex.Goals.{Start}
 
-module _ (s : goal.Start) where
+module _ (s : Start) where
   ten_fits : SFits w32 (pos 10 *ℤ s.args.vertex)
   ten_fits = small_fits w32 _ (omega (arith, nat_abs_mul (pos 10) s.args.vertex))
 
@@ -39,6 +40,5 @@ rounded-requires s = simp (to_z-of_z s.ranges.vertex, to_z-of_z s.ranges.sum, to
 
 pub returns : goal.returns
 returns c =
-    let s = c.before in
-    let e = simp (to_z-of_z s.ranges.vertex, to_z-of_z s.ranges.sum, to_z-of_z (ten_fits s), to_z-of_z (fits s), to_z-of_z (wide s)) at c.rounded.ensures in
-    λ w. simp (back_of w32 c.rounded.result c.rounded.type_inv) (e ∙ sym (V3_six w s.args.vertex s.args.sum))
+    let e = simp (to_z-of_z c.ranges.vertex, to_z-of_z c.ranges.sum, to_z-of_z (ten_fits (goal.at.returns c).Start), to_z-of_z (fits (goal.at.returns c).Start), to_z-of_z (wide (goal.at.returns c).Start)) at c.rounded.ensures in
+    λ w. simp (back_of w32 c.rounded.result c.rounded.type_inv) (e ∙ sym (V3_six w c.args.vertex c.args.sum))

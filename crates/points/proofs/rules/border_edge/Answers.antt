@@ -12,8 +12,9 @@ use Rattle.points.specs.PointRules.{E1}
 use Rattle.points.specs.Operations.{most_coordinate}
 use Rattle.points.proofs.Numerators.{E1_numerator}
 use Rattle.points.proofs.rules.border_edge.Goals as goal
+use Rattle.points.proofs.rules.border_edge.Goals.{Start}
 
-module _ (s : goal.Start) where
+module _ (s : Start) where
   small : nat_abs (s.args.a +ℤ s.args.b) ≤ most_coordinate * 2
   small = E1_numerator most_coordinate s.args.a s.args.b s.requires.0 s.requires.1
 
@@ -35,6 +36,5 @@ rounded-requires s = simp (widened s.ranges.a, widened s.ranges.b, to_z-of_z (fi
 pub returns : goal.returns
 unfolding E1
 returns c =
-    let s = c.before in
-    let e = simp (widened s.ranges.a, widened s.ranges.b, to_z-of_z (fits s)) at c.rounded.ensures in
+    let e = simp (widened c.ranges.a, widened c.ranges.b, to_z-of_z (fits (goal.at.returns c).Start)) at c.rounded.ensures in
     simp (back_of w32 c.rounded.result c.rounded.type_inv) e

@@ -13,8 +13,9 @@ use Rattle.points.specs.Operations.{most_coordinate}
 use Rattle.points.specs.Internal.Parts.{mark, met}
 use Rattle.points.proofs.Numerators.{unmarked_at_most}
 use Rattle.points.proofs.rules.border_vertex.Goals as goal
+use Rattle.points.proofs.rules.border_vertex.Goals.{Else-now-le-MOST_COORDINATE, Start}
 
-module _ (s : goal.Start) where
+module _ (s : Start) where
   abbrev x : ℤ
   x = s.args.vertex
 
@@ -27,7 +28,7 @@ module _ (s : goal.Start) where
   marked_fits : SFits w32 (pos 6 *ℤ x +ℤ a +ℤ pos mark)
   marked_fits = small_fits w32 _ (omega (arith, nat_abs_mul (pos 6) x, nat_abs_add (pos 6 *ℤ x) a, nat_abs_add (pos 6 *ℤ x +ℤ a) (pos mark)))
 
-module _ (c : goal.Else-now-le-MOST_COORDINATE) where
+module _ (c : Else-now-le-MOST_COORDINATE) where
   abbrev sum : ℤ
   sum = c.args.now -ℤ pos mark
 
@@ -40,31 +41,30 @@ module _ (c : goal.Else-now-le-MOST_COORDINATE) where
   unmarked_fits : SFits w32 sum
   unmarked_fits = small_fits w32 _ (omega (arith, sum_small))
 
-  small : nat_abs (sum +ℤ a c.before) ≤ mark + most_coordinate
-  small = omega (arith, sum_small, nat_abs_add sum (a c.before))
+  small : nat_abs (sum +ℤ a (goal.at.Else-now-le-MOST_COORDINATE c).Start) ≤ mark + most_coordinate
+  small = omega (arith, sum_small, nat_abs_add sum (a (goal.at.Else-now-le-MOST_COORDINATE c).Start))
 
-  fits : SFits w32 (sum +ℤ a c.before)
+  fits : SFits w32 (sum +ℤ a (goal.at.Else-now-le-MOST_COORDINATE c).Start)
   fits = small_fits w32 _ (omega (arith, small))
 
-  wide : SFits w64 (sum +ℤ a c.before)
+  wide : SFits w64 (sum +ℤ a (goal.at.Else-now-le-MOST_COORDINATE c).Start)
   wide = sfits_widen tt fits
 
 pub overflow_mul-result : goal.overflow_mul-result
-overflow_mul-result c = let s = c.before in simp (to_z-of_z s.ranges.vertex) (both_fit s).0
+overflow_mul-result c = simp (to_z-of_z c.ranges.vertex) (both_fit (goal.at.overflow_mul-result c).Start).0
 
 pub overflow_add-result : goal.overflow_add-result
-overflow_add-result c = let s = c.before in simp (to_z-of_z s.ranges.vertex, to_z-of_z s.ranges.neighbour, to_z-of_z (both_fit s).0) (both_fit s).1
+overflow_add-result c = simp (to_z-of_z c.ranges.vertex, to_z-of_z c.ranges.neighbour, to_z-of_z (both_fit (goal.at.overflow_add-result c).Start).0) (both_fit (goal.at.overflow_add-result c).Start).1
 
 pub overflow_add-result-then-now-le-MOST_COORDINATE : goal.overflow_add-result-then-now-le-MOST_COORDINATE
-overflow_add-result-then-now-le-MOST_COORDINATE c = let s = c.before in simp (to_z-of_z s.ranges.vertex, to_z-of_z s.ranges.neighbour, to_z-of_z (both_fit s).0, to_z-of_z (both_fit s).1) (marked_fits s)
+overflow_add-result-then-now-le-MOST_COORDINATE c = simp (to_z-of_z c.ranges.vertex, to_z-of_z c.ranges.neighbour, to_z-of_z (both_fit (goal.at.overflow_add-result-then-now-le-MOST_COORDINATE c).Start).0, to_z-of_z (both_fit (goal.at.overflow_add-result-then-now-le-MOST_COORDINATE c).Start).1) (marked_fits (goal.at.overflow_add-result-then-now-le-MOST_COORDINATE c).Start)
 
 pub returns-then-now-le-MOST_COORDINATE : goal.returns-then-now-le-MOST_COORDINATE
 unfolding met
 returns-then-now-le-MOST_COORDINATE c =
-    let s = c.before in
-    let first : le_z s.args.now (pos most_coordinate) ≡ true = simp (to_z-of_z s.ranges.now) at c.if-now-le-MOST_COORDINATE.true in
+    let first : le_z c.args.now (pos most_coordinate) ≡ true = simp (to_z-of_z c.ranges.now) at c.if-now-le-MOST_COORDINATE.true in
     rw first
-    (simp (to_z-of_z s.ranges.vertex, to_z-of_z s.ranges.neighbour, to_z-of_z (both_fit s).0, to_z-of_z (both_fit s).1, to_z-of_z (marked_fits s)))
+    (simp (to_z-of_z c.ranges.vertex, to_z-of_z c.ranges.neighbour, to_z-of_z (both_fit (goal.at.returns-then-now-le-MOST_COORDINATE c).Start).0, to_z-of_z (both_fit (goal.at.returns-then-now-le-MOST_COORDINATE c).Start).1, to_z-of_z (marked_fits (goal.at.returns-then-now-le-MOST_COORDINATE c).Start)))
 
 pub overflow_sub-numerator : goal.overflow_sub-numerator
 overflow_sub-numerator c = simp (to_z-of_z c.ranges.now) (unmarked_fits c)
@@ -83,6 +83,5 @@ rounded-requires c =
 pub returns : goal.returns
 unfolding met
 returns c =
-    let b = c.before in
-    let e = simp (to_z-of_z b.ranges.now, to_z-of_z b.ranges.neighbour, to_z-of_z (unmarked_fits b), to_z-of_z (fits b), to_z-of_z (wide b)) at c.rounded.ensures in
-    rw (second b) (back_of w32 c.rounded.result c.rounded.type_inv ∙ e)
+    let e = simp (to_z-of_z c.ranges.now, to_z-of_z c.ranges.neighbour, to_z-of_z (unmarked_fits (goal.at.returns c).Else-now-le-MOST_COORDINATE), to_z-of_z (fits (goal.at.returns c).Else-now-le-MOST_COORDINATE), to_z-of_z (wide (goal.at.returns c).Else-now-le-MOST_COORDINATE)) at c.rounded.ensures in
+    rw (second (goal.at.returns c).Else-now-le-MOST_COORDINATE) (back_of w32 c.rounded.result c.rounded.type_inv ∙ e)

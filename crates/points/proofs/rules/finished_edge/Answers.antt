@@ -10,8 +10,9 @@ use mir.Facts.{to_z-of_z, sfits_widen}
 use Rattle.laws.proofs.Integers.{nat_abs_add, small_fits, back_of}
 use Rattle.points.specs.Operations.{most_coordinate}
 use Rattle.points.proofs.rules.finished_edge.Goals as goal
+use Rattle.points.proofs.rules.finished_edge.Goals.{Start}
 
-module _ (s : goal.Start) where
+module _ (s : Start) where
   abbrev numerator : ℤ
   numerator = s.args.sum +ℤ s.args.d
 
@@ -35,6 +36,5 @@ rounded-requires s = simp (to_z-of_z s.ranges.sum, to_z-of_z s.ranges.d, to_z-of
 
 pub returns : goal.returns
 returns c =
-    let s = c.before in
-    let e = simp (to_z-of_z s.ranges.sum, to_z-of_z s.ranges.d, to_z-of_z (fits s), to_z-of_z (wide s)) at c.rounded.ensures in
+    let e = simp (to_z-of_z c.ranges.sum, to_z-of_z c.ranges.d, to_z-of_z (fits (goal.at.returns c).Start), to_z-of_z (wide (goal.at.returns c).Start)) at c.rounded.ensures in
     simp (back_of w32 c.rounded.result c.rounded.type_inv) e

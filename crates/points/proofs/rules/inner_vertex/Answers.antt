@@ -15,8 +15,9 @@ use Rattle.points.specs.Operations.{most_coordinate}
 use Rattle.points.proofs.Shares.{shares_within, whole_some, whole_small, whole_even}
 use Rattle.points.proofs.Numerators.{V3_parts, V3_numerator}
 use Rattle.points.proofs.rules.inner_vertex.Goals as goal
+use Rattle.points.proofs.rules.inner_vertex.Goals.{Start}
 
-module _ (s : goal.Start) where
+module _ (s : Start) where
   abbrev n : ℕ
   n = s.args.corners
 
@@ -72,40 +73,37 @@ module _ (s : goal.Start) where
   fits = small_fits w64 _ (omega (arith, small, few))
 
 pub overflow_mul-rest : goal.overflow_mul-rest
-overflow_mul-rest c = let s = c.before in rw c.share-share.ensures (record { fits = omega (arith, within s, few s) })
+overflow_mul-rest c = rw c.share-share.ensures (record { fits = omega (arith, within (goal.at.overflow_mul-rest c).Start, few (goal.at.overflow_mul-rest c).Start) })
 
 pub overflow_sub-rest : goal.overflow_sub-rest
-overflow_sub-rest c = rw c.share-share.ensures (within c.before)
+overflow_sub-rest c = rw c.share-share.ensures (within (goal.at.overflow_sub-rest c).Start)
 
 pub overflow_cast-numerator-2 : goal.overflow_cast-numerator-2
 overflow_cast-numerator-2 c = simp (to_z-of_z c.ranges.vertex) (sfits_widen tt c.ranges.vertex)
 
 pub overflow_mul-numerator : goal.overflow_mul-numerator
-overflow_mul-numerator c = let s = c.before in simp (c.share-share.ensures, left_same s, widened s.ranges.vertex) (left_fits s)
+overflow_mul-numerator c = simp (c.share-share.ensures, left_same (goal.at.overflow_mul-numerator c).Start, widened c.ranges.vertex) (left_fits (goal.at.overflow_mul-numerator c).Start)
 
 pub overflow_cast-numerator-4 : goal.overflow_cast-numerator-4
 overflow_cast-numerator-4 c = simp (to_z-of_z c.ranges.sum) (sfits_widen tt c.ranges.sum)
 
 pub overflow_mul-numerator-2 : goal.overflow_mul-numerator-2
-overflow_mul-numerator-2 c = let s = c.before in simp (c.share-share.ensures, part_same s, widened s.ranges.sum) (part_fits s)
+overflow_mul-numerator-2 c = simp (c.share-share.ensures, part_same (goal.at.overflow_mul-numerator-2 c).Start, widened c.ranges.sum) (part_fits (goal.at.overflow_mul-numerator-2 c).Start)
 
 pub overflow_add-numerator : goal.overflow_add-numerator
 overflow_add-numerator c =
-    let s = c.before in
-    simp (c.share-share.ensures, left_same s, part_same s, widened s.ranges.vertex, widened s.ranges.sum, to_z-of_z (left_fits s), to_z-of_z (part_fits s)) (fits s)
+    simp (c.share-share.ensures, left_same (goal.at.overflow_add-numerator c).Start, part_same (goal.at.overflow_add-numerator c).Start, widened c.ranges.vertex, widened c.ranges.sum, to_z-of_z (left_fits (goal.at.overflow_add-numerator c).Start), to_z-of_z (part_fits (goal.at.overflow_add-numerator c).Start)) (fits (goal.at.overflow_add-numerator c).Start)
 
 pub rounded-requires : goal.rounded-requires
 rounded-requires c =
-    let s = c.before in
-    simp (c.share-share.ensures, left_same s, part_same s, whole_same s, widened s.ranges.vertex, widened s.ranges.sum, to_z-of_z (left_fits s), to_z-of_z (part_fits s), to_z-of_z (fits s))
-    (record { lt = lt→ltb 0 (whole s) (some s) }, omega (arith, few s), omega (arith, small s), whole_even s.args.weight (n s))
+    simp (c.share-share.ensures, left_same (goal.at.rounded-requires c).Start, part_same (goal.at.rounded-requires c).Start, whole_same (goal.at.rounded-requires c).Start, widened c.ranges.vertex, widened c.ranges.sum, to_z-of_z (left_fits (goal.at.rounded-requires c).Start), to_z-of_z (part_fits (goal.at.rounded-requires c).Start), to_z-of_z (fits (goal.at.rounded-requires c).Start))
+    (record { lt = lt→ltb 0 (whole (goal.at.rounded-requires c).Start) (some (goal.at.rounded-requires c).Start) }, omega (arith, few (goal.at.rounded-requires c).Start), omega (arith, small (goal.at.rounded-requires c).Start), whole_even c.args.weight (n (goal.at.rounded-requires c).Start))
 
 pub returns : goal.returns
 unfolding V3
 returns c =
-    let s = c.before.before in
     let e =
-    simp (c.share-share.ensures, left_same s, part_same s, whole_same s, widened s.ranges.vertex, widened s.ranges.sum, to_z-of_z (left_fits s), to_z-of_z (part_fits s), to_z-of_z (fits s)) at
+    simp (c.share-share.ensures, left_same (goal.at.returns c).Start, part_same (goal.at.returns c).Start, whole_same (goal.at.returns c).Start, widened c.ranges.vertex, widened c.ranges.sum, to_z-of_z (left_fits (goal.at.returns c).Start), to_z-of_z (part_fits (goal.at.returns c).Start), to_z-of_z (fits (goal.at.returns c).Start)) at
     c.rounded.ensures
     in
     simp (back_of w32 c.rounded.result c.rounded.type_inv) e

@@ -9,8 +9,9 @@ use Rattle.points.specs.Operations.{most_coordinate}
 use Rattle.points.specs.Internal.Parts.{started}
 use Rattle.points.proofs.Numerators.{started_at_most}
 use Rattle.points.proofs.rules.started_edge.Goals as goal
+use Rattle.points.proofs.rules.started_edge.Goals.{Start}
 
-module _ (s : goal.Start) where
+module _ (s : Start) where
   abbrev a : ℤ
   a = s.args.a
 

@@ -6,9 +6,10 @@ use native.Mathlib.Omega.{arith}
 use Rattle.points.specs.Weights.{most_valence}
 use Rattle.points.proofs.Shares.{below, past, listed}
 use Rattle.points.proofs.weights.entry.Goals as goal
+use Rattle.points.proofs.weights.entry.Goals.{In-2-to-32-1}
 
 -- where the table is read the valence is 5, which has no number of its own, or in the range
-in_table : (c : goal.In-2-to-32-1) → (2 ≤ c.args.corners) × (c.args.corners ≤ most_valence)
+in_table : (c : In-2-to-32-1) → (2 ≤ c.args.corners) × (c.args.corners ≤ most_valence)
 in_table c = ⊎_elim (λ k. (omega (arith, k.keys5), omega (arith, k.keys5))) (λ k. (k.1.left, omega (arith, k.2.taken))) c.in-2.branch
 
 pub overflow_sub-result : goal.overflow_sub-result

@@ -7,19 +7,20 @@ use lib.ListN.{length}
 use Rattle.halfedges.specs.Refusals.{DONE}
 use Rattle.filechecks.proofs.Sound.{sound_length}
 use Rattle.reading.proofs.Reading.of.Goals as goal
+use Rattle.reading.proofs.Reading.of.Goals.{Start}
 
-module _ (s : goal.Start) where
+module _ (s : Start) where
   long : 9 ≤ length s.args.file.now
   long = omega (arith, sound_length _ s.requires)
 
 pub form_in-requires : goal.form_in-requires
-form_in-requires c = long c.before
+form_in-requires c = long (goal.at.form_in-requires c).Start
 
 pub halfedges_in-requires : goal.halfedges_in-requires
-halfedges_in-requires c = long c.before.before
+halfedges_in-requires c = long (goal.at.halfedges_in-requires c).Start
 
 pub vertices_in-requires : goal.vertices_in-requires
-vertices_in-requires c = long c.before.before.before
+vertices_in-requires c = long (goal.at.vertices_in-requires c).Start
 
 pub returns : goal.returns
 returns c =

@@ -14,11 +14,12 @@ use Rattle.reading.specs.Reading.{short_room, read_verdict}
 use Rattle.filechecks.specs.Internal.Sound.{Sound}
 use Rattle.filechecks.proofs.Sound.{checks_sound, sound_length}
 use Rattle.reading.proofs.checks.refusal.Goals as goal
+use Rattle.reading.proofs.checks.refusal.Goals.{Else-number-ne0, Start}
 
 -- where the file passes
-module _ (c : goal.Else-number-ne0) where
-  abbrev start : goal.Start
-  start = c.before.before.before.before.before.before.before.before
+module _ (c : Else-number-ne0) where
+  abbrev start : Start
+  start = (goal.at.Else-number-ne0 c).Start
 
   abbrev f : List ℕ
   f = start.args.file.now
@@ -55,20 +56,17 @@ pub halfedges_in-halfedges-requires : goal.halfedges_in-halfedges-requires
 halfedges_in-halfedges-requires c = whole c
 
 pub vertices_in-vertices-requires : goal.vertices_in-vertices-requires
-vertices_in-vertices-requires c = whole c.before
+vertices_in-vertices-requires c = whole (goal.at.vertices_in-vertices-requires c).Else-number-ne0
 
 pub edges_in-edges-requires : goal.edges_in-edges-requires
-edges_in-edges-requires c = sound c.before.before
+edges_in-edges-requires c = sound (goal.at.edges_in-edges-requires c).Else-number-ne0
 
 pub room_refusal-requires : goal.room_refusal-requires
 room_refusal-requires c = c.vertices_in-vertices.ensures.1
 
 pub returns : goal.returns
 returns c =
-    let e = c.before in
-    let v = e.before in
-    let h = v.before in
-    let r = room h.before in
+    let r = room (goal.at.returns c).Else-number-ne0 in
     c.room_refusal.ensures
-    ∙ (λ i. r (h.halfedges_in-halfedges.ensures.0 i) (v.vertices_in-vertices.ensures.0 i) (e.edges_in-edges.ensures.0 i))
-    ∙ sym (room_left h.before)
+    ∙ (λ i. r (c.halfedges_in-halfedges.ensures.0 i) (c.vertices_in-vertices.ensures.0 i) (c.edges_in-edges.ensures.0 i))
+    ∙ sym (room_left (goal.at.returns c).Else-number-ne0)

@@ -5,10 +5,11 @@ use Rattle.halfedges.specs.Cage.{NEXT}
 use Rattle.edgepoints.specs.Internal.Edges.{corner_of}
 use Rattle.seams.proofs.Seaming.{corner_read, asks_seam, drawn_at}
 use Rattle.seams.proofs.seams.draw_at.Goals as goal
+use Rattle.seams.proofs.seams.draw_at.Goals.{After-read_corner-b, Start}
 
 -- both corners, read
-module _ (a : goal.After-read_corner-b) where
-  abbrev s : goal.Start
+module _ (a : After-read_corner-b) where
+  abbrev s : Start
   s = a.before.before.before.before.before.before.before.before
 
   from_is : a.read_corner-a.result ≡ corner_of s.args.vert.now s.args.points.now s.args.halfedge
@@ -30,12 +31,8 @@ read_corner-b-requires c =
 
 pub draw_seam-requires : goal.draw_seam-requires
 draw_seam-requires c =
-    let a = c.before.before.before.before in
-    asks_seam (s a).requires.0 (s a).args.halfedge (s a).requires.1 (from_is a) (end_is a) c.wide.ensures
+    asks_seam (s (goal.at.draw_seam-requires c).After-read_corner-b).requires.0 (s (goal.at.draw_seam-requires c).After-read_corner-b).args.halfedge (s (goal.at.draw_seam-requires c).After-read_corner-b).requires.1 (from_is (goal.at.draw_seam-requires c).After-read_corner-b) (end_is (goal.at.draw_seam-requires c).After-read_corner-b) c.wide.ensures
 
 pub returns : goal.returns
 returns c =
-    let d = c.before in
-    let k = d.before.before.before.before in
-    let a = k.before in
-    drawn_at (s a).requires.0 (s a).args.halfedge (s a).requires.1 (from_is a) (end_is a) d.wide.ensures (s a).args.counts.now k.known_creases-creases.ensures d.draw_seam.ensures
+    drawn_at (s (goal.at.returns c).After-read_corner-b).requires.0 (s (goal.at.returns c).After-read_corner-b).args.halfedge (s (goal.at.returns c).After-read_corner-b).requires.1 (from_is (goal.at.returns c).After-read_corner-b) (end_is (goal.at.returns c).After-read_corner-b) c.wide.ensures (s (goal.at.returns c).After-read_corner-b).args.counts.now c.known_creases-creases.ensures c.draw_seam.ensures

@@ -7,10 +7,11 @@ use Rattle.seams.specs.Internal.Seams.{sharp_at}
 use Rattle.seams.proofs.Numbers.{part_below}
 use Rattle.seams.proofs.Seaming.{seam_drawn, seam_none}
 use Rattle.seams.proofs.seams.draw_part.Goals as goal
+use Rattle.seams.proofs.seams.draw_part.Goals.{After-stays_sharp, Start}
 
-module _ (a : goal.After-stays_sharp) where
-  abbrev s : goal.Start
-  s = a.before.before.before.before.before.before.before
+module _ (a : After-stays_sharp) where
+  abbrev s : Start
+  s = (goal.at.After-stays_sharp a).Start
 
   sharp_is : sharp_at s.args.creases.now s.args.level (cell s.args.edge.now s.args.halfedge) ≡ a.stays_sharp.result
   unfolding sharp_at
@@ -22,8 +23,7 @@ stays_sharp-requires c =
 
 pub returns-then-stays_sharp : goal.returns-then-stays_sharp
 returns-then-stays_sharp c =
-    let t = c.before.before.before in
-    c.draw_at.ensures ∙ sym (seam_drawn _ _ _ _ _ _ _ _ _ (sharp_is t.before ∙ t.if-stays_sharp.true))
+    c.draw_at.ensures ∙ sym (seam_drawn _ _ _ _ _ _ _ _ _ (sharp_is (goal.at.returns-then-stays_sharp c).After-stays_sharp ∙ c.if-stays_sharp.true))
 
 pub returns-else-stays_sharp : goal.returns-else-stays_sharp
-returns-else-stays_sharp c = sym (seam_none _ _ _ _ _ _ _ _ _ (sharp_is c.before ∙ c.if-stays_sharp.false))
+returns-else-stays_sharp c = sym (seam_none _ _ _ _ _ _ _ _ _ (sharp_is (goal.at.returns-else-stays_sharp c).After-stays_sharp ∙ c.if-stays_sharp.false))

@@ -9,8 +9,9 @@ use Rattle.laws.specs.Below.{any}
 use Rattle.laws.proofs.Tests.{true_any}
 use Rattle.seams.specs.Internal.Seams.{stays_sharp, any_sharp}
 use Rattle.seams.proofs.sharp.any_sharp.Goals as goal
+use Rattle.seams.proofs.sharp.any_sharp.Goals.{Start}
 
-abbrev test : goal.Start → ℕ → Bool
+abbrev test : Start → ℕ → Bool
 test s = stays_sharp s.args.creases.now s.args.level
 
 pub loop-edge-init : goal.loop-edge-init
@@ -19,20 +20,15 @@ loop-edge-init c = (omega arith, refl)
 pub returns-then-stays_sharp : goal.returns-then-stays_sharp
 unfolding any_sharp
 returns-then-stays_sharp c =
-    let a = c.before in
-    let i = a.before.before in
-    sym (true_any (test i.before.before) _ i.loop-edge.edge a.loop-edge-test.true (sym a.stays_sharp.ensures ∙ c.if-stays_sharp.true))
+    sym (true_any (test (goal.at.returns-then-stays_sharp c).Start) _ c.loop-edge.edge c.loop-edge-test.true (sym c.stays_sharp.ensures ∙ c.if-stays_sharp.true))
 
 pub loop-edge-preserved : goal.loop-edge-preserved
 loop-edge-preserved c =
-    let a = c.before in
-    let i = a.loop-edge in
-    let none : test a.before.before.before.before i.edge ≡ false = sym a.stays_sharp.ensures ∙ c.if-stays_sharp.false in
+    let i = c.loop-edge in
+    let none : test (goal.at.loop-edge-preserved c).Start i.edge ≡ false = sym c.stays_sharp.ensures ∙ c.if-stays_sharp.false in
     (omega arith, rw (add-one i.edge, i.invariant.1, none))
 
 pub returns : goal.returns
 unfolding any_sharp
 returns c =
-    let i = c.before in
-    let s = i.before.before in
-    sym (ap (λ n. any n (test s)) (let e : length s.args.creases.now ≡ i.loop-edge.edge = omega (arith, i.loop-edge.invariant.0) in e) ∙ i.loop-edge.invariant.1)
+    sym (ap (λ n. any n (test (goal.at.returns c).Start)) (let e : length c.args.creases.now ≡ c.loop-edge.edge = omega (arith, c.loop-edge.invariant.0) in e) ∙ c.loop-edge.invariant.1)

@@ -5,14 +5,15 @@ use lib.Dec.{ltb}
 use Rattle.halfedges.specs.Cage.{cell}
 use Rattle.seams.proofs.Counted.{border-added, sharp_added, none_added}
 use Rattle.seams.proofs.tally.count_halfedge.Goals as goal
+use Rattle.seams.proofs.tally.count_halfedge.Goals.{After-stays_sharp, Else-twin-halfedge, Start}
 
 -- what the test of the edge's number tells
-module _ (a : goal.After-stays_sharp) where
-  abbrev e : goal.Else-twin-halfedge
-  e = a.before.before.before
+module _ (a : After-stays_sharp) where
+  abbrev e : Else-twin-halfedge
+  e = (goal.at.After-stays_sharp a).Else-twin-halfedge
 
-  abbrev s : goal.Start
-  s = e.before.before.before.before.before.before.before
+  abbrev s : Start
+  s = (goal.at.Else-twin-halfedge e).Start
 
   sharp_is : ltb s.args.level (cell s.args.creases.now (cell s.args.edge.now s.args.halfedge)) ≡ a.stays_sharp.result
   sharp_is = sym (a.stays_sharp.ensures ∙ ap (λ i. ltb s.args.level (cell s.args.creases.now i)) a.wide.ensures)
@@ -25,14 +26,11 @@ stays_sharp-requires c =
     omega (arith, c.wide.ensures, c.requires.0.numbered c.args.halfedge c.requires.1)
 
 pub count_one-requires : goal.count_one-requires
-count_one-requires c = λ l. omega (arith, (s c.before.before.before.before).requires.2 _ l)
+count_one-requires c = λ l. omega (arith, (s (goal.at.count_one-requires c).After-stays_sharp).requires.2 _ l)
 
 pub returns-then-stays_sharp : goal.returns-then-stays_sharp
 returns-then-stays_sharp c =
-    let one = c.before.before in
-    let t = one.before.before.before.before in
-    let a = t.before in
-    sharp_added _ _ _ _ _ (e a).if-twin-halfedge.false one.wide-then-stays_sharp.ensures (sharp_is a ∙ t.if-stays_sharp.true) one.count_one.ensures
+    sharp_added _ _ _ _ _ (e (goal.at.returns-then-stays_sharp c).After-stays_sharp).if-twin-halfedge.false c.wide-then-stays_sharp.ensures (sharp_is (goal.at.returns-then-stays_sharp c).After-stays_sharp ∙ c.if-stays_sharp.true) c.count_one.ensures
 
 pub returns-else-stays_sharp : goal.returns-else-stays_sharp
-returns-else-stays_sharp c = none_added _ _ _ _ _ (e c.before).if-twin-halfedge.false (sharp_is c.before ∙ c.if-stays_sharp.false)
+returns-else-stays_sharp c = none_added _ _ _ _ _ (e (goal.at.returns-else-stays_sharp c).After-stays_sharp).if-twin-halfedge.false (sharp_is (goal.at.returns-else-stays_sharp c).After-stays_sharp ∙ c.if-stays_sharp.false)

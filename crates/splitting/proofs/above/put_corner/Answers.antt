@@ -3,10 +3,11 @@ use native.Mathlib.Omega.{arith}
 use Rattle.splitting.specs.Internal.InPlace.{split_twins, Leaving}
 use Rattle.splitting.proofs.Descent.{two_below, last_next, first_next}
 use Rattle.splitting.proofs.above.put_corner.Goals as goal
+use Rattle.splitting.proofs.above.put_corner.Goals.{After-three-twins, Start}
 
 -- the twins that are read
-module _ (r : goal.After-three-twins) where
-  abbrev start : goal.Start
+module _ (r : After-three-twins) where
+  abbrev start : Start
   start = r.before.before.before
 
   last : Leaving 2 r.three-twins.result.0
@@ -16,22 +17,18 @@ module _ (r : goal.After-three-twins) where
   first = rw r.three-twins.ensures start.requires.corner_triangle.third
 
 pub overflow_sub-wide : goal.overflow_sub-wide
-overflow_sub-wide c = omega (arith, c.wide.ensures, two_below (last c.before))
+overflow_sub-wide c = omega (arith, c.wide.ensures, two_below (last (goal.at.overflow_sub-wide c).After-three-twins))
 
 pub twin_halves-requires : goal.twin_halves-requires
-twin_halves-requires c = last_next (last c.before) c.wide.ensures
+twin_halves-requires c = last_next (last (goal.at.twin_halves-requires c).After-three-twins) c.wide.ensures
 
 pub twin_halves-requires-2 : goal.twin_halves-requires-2
-twin_halves-requires-2 c = first_next (first c.before.before.before.before) c.wide-2.ensures
+twin_halves-requires-2 c = first_next (first (goal.at.twin_halves-requires-2 c).After-three-twins) c.wide-2.ensures
 
 pub put-requires : goal.put-requires
-put-requires c = (start c.before.before.before.before.before.before.before).requires.fits
+put-requires c = (start (goal.at.put-requires c).After-three-twins).requires.fits
 
 pub returns : goal.returns
 unfolding split_twins
 returns c =
-    let p = c.before.before in
-    let j = p.before.before in
-    let k = j.before.before.before in
-    let r = k.before.before.before in
-    rw (p.put.ensures, j.join_twins-split.ensures, j.twin_halves-2.ensures, k.known_halves.ensures, k.twin_halves.ensures, r.three-twins.ensures, (start r).requires.corner_triangle.second)
+    rw (c.put.ensures, c.join_twins-split.ensures, c.twin_halves-2.ensures, c.known_halves.ensures, c.twin_halves.ensures, c.three-twins.ensures, (start (goal.at.returns c).After-three-twins).requires.corner_triangle.second)

@@ -6,8 +6,9 @@ use Rattle.halfedges.specs.Cage.{marker}
 use Rattle.halfedges.proofs.Triangle.{next_at_most}
 use Rattle.splitting.specs.Internal.InPlace.{most_small}
 use Rattle.splitting.proofs.halves.known_halves.Goals as goal
+use Rattle.splitting.proofs.halves.known_halves.Goals.{Start}
 
-small : (c : goal.Start) → c.args.next ≤ most_small
+small : (c : Start) → c.args.next ≤ most_small
 small c = omega (arith, c.requires.1, next_at_most c.args.twin, c.requires.0)
 
 pub overflow_mul-result : goal.overflow_mul-result

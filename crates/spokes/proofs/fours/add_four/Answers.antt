@@ -9,10 +9,11 @@ use Rattle.spokes.specs.Internal.Fours.{add_four}
 use Rattle.spokes.proofs.CornerAdded.{corner_on}
 use Rattle.spokes.proofs.FourAdded.{one, two, adds_u, adds_v, adds_w}
 use Rattle.spokes.proofs.fours.add_four.Goals as goal
+use Rattle.spokes.proofs.fours.add_four.Goals.{After-add_corner, After-add_corner-2, After-point_of-at_c, Start}
 
 -- the points that were read
-module _ (o : goal.After-point_of-at_c) where
-  abbrev start : goal.Start
+module _ (o : After-point_of-at_c) where
+  abbrev start : Start
   start = o.before.before.before.before.before.before.before.before.before.before.before.before
 
   abbrev n : ℕ
@@ -43,26 +44,23 @@ module _ (o : goal.After-point_of-at_c) where
   is_c = o.point_of-at_c.ensures
 
 -- the table after each corner but the last
-is_one : (k : goal.After-add_corner) → let o = k.before.before in k.add_corner.new.points ≡ one (n o) (f o) (l o)
-is_one k = let o = k.before.before in corner_on _ _ _ (is_u o) (is_a o) (is_b o) refl k.add_corner.ensures
+is_one : (k : After-add_corner) → k.add_corner.new.points ≡ one (n (goal.at.After-add_corner k).After-point_of-at_c) (f (goal.at.After-add_corner k).After-point_of-at_c) (l (goal.at.After-add_corner k).After-point_of-at_c)
+is_one k = corner_on _ _ _ (is_u (goal.at.After-add_corner k).After-point_of-at_c) (is_a (goal.at.After-add_corner k).After-point_of-at_c) (is_b (goal.at.After-add_corner k).After-point_of-at_c) refl k.add_corner.ensures
 
-is_two : (k : goal.After-add_corner-2) → let o = k.before.before.before.before.before in k.add_corner-2.new.points ≡ two (n o) (f o) (l o)
+is_two : (k : After-add_corner-2) → k.add_corner-2.new.points ≡ two (n (goal.at.After-add_corner-2 k).After-point_of-at_c) (f (goal.at.After-add_corner-2 k).After-point_of-at_c) (l (goal.at.After-add_corner-2 k).After-point_of-at_c)
 is_two k =
-    let o = k.before.before.before.before.before in
-    corner_on _ _ _ (is_v o) (is_b o) (is_c o) (is_one k.before.before.before) k.add_corner-2.ensures
+    corner_on _ _ _ (is_v (goal.at.After-add_corner-2 k).After-point_of-at_c) (is_b (goal.at.After-add_corner-2 k).After-point_of-at_c) (is_c (goal.at.After-add_corner-2 k).After-point_of-at_c) (is_one (goal.at.After-add_corner-2 k).After-add_corner) k.add_corner-2.ensures
 
 pub add_corner-requires : goal.add_corner-requires
-add_corner-requires c = let o = c.before in adds_u _ _ _ (start o).requires (is_u o) (is_a o) (is_b o)
+add_corner-requires c = adds_u _ _ _ (start (goal.at.add_corner-requires c).After-point_of-at_c).requires (is_u (goal.at.add_corner-requires c).After-point_of-at_c) (is_a (goal.at.add_corner-requires c).After-point_of-at_c) (is_b (goal.at.add_corner-requires c).After-point_of-at_c)
 
 pub add_corner-requires-2 : goal.add_corner-requires-2
-add_corner-requires-2 c = let k = c.before.before in let o = k.before.before in adds_v _ _ _ (start o).requires (is_v o) (is_b o) (is_c o) (is_one k)
+add_corner-requires-2 c = adds_v _ _ _ (start (goal.at.add_corner-requires-2 c).After-point_of-at_c).requires (is_v (goal.at.add_corner-requires-2 c).After-point_of-at_c) (is_b (goal.at.add_corner-requires-2 c).After-point_of-at_c) (is_c (goal.at.add_corner-requires-2 c).After-point_of-at_c) (is_one (goal.at.add_corner-requires-2 c).After-add_corner)
 
 pub add_corner-requires-3 : goal.add_corner-requires-3
-add_corner-requires-3 c = let k = c.before.before in let o = k.before.before.before.before.before in adds_w _ _ _ (start o).requires (is_w o) (is_c o) (is_a o) (is_two k)
+add_corner-requires-3 c = adds_w _ _ _ (start (goal.at.add_corner-requires-3 c).After-point_of-at_c).requires (is_w (goal.at.add_corner-requires-3 c).After-point_of-at_c) (is_c (goal.at.add_corner-requires-3 c).After-point_of-at_c) (is_a (goal.at.add_corner-requires-3 c).After-point_of-at_c) (is_two (goal.at.add_corner-requires-3 c).After-add_corner-2)
 
 pub returns : goal.returns
 unfolding add_four
 returns c =
-    let k = c.before.before.before.before in
-    let o = k.before.before.before.before.before in
-    corner_on _ _ _ (is_w o) (is_c o) (is_a o) (is_two k) c.add_corner-3.ensures
+    corner_on _ _ _ (is_w (goal.at.returns c).After-point_of-at_c) (is_c (goal.at.returns c).After-point_of-at_c) (is_a (goal.at.returns c).After-point_of-at_c) (is_two (goal.at.returns c).After-add_corner-2) c.add_corner-3.ensures

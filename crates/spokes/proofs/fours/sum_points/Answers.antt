@@ -11,8 +11,9 @@ use Rattle.points.specs.Internal.Cells.{value}
 use Rattle.points.proofs.Only.{stored, near_stored, near_kept}
 use Rattle.spokes.specs.Internal.Fours.{sum_at}
 use Rattle.spokes.proofs.fours.sum_points.Goals as goal
+use Rattle.spokes.proofs.fours.sum_points.Goals.{Start}
 
-module _ (s : goal.Start) (k : ℕ) (l : k < 3) where
+module _ (s : Start) (k : ℕ) (l : k < 3) where
   asked : (nat_abs (stored (value s.args.p k)) ≤ most_coordinate) × (nat_abs (stored (value s.args.q k)) ≤ most_coordinate) × (nat_abs (stored (value s.args.r k)) ≤ most_coordinate)
   asked = (near_kept s.args.p s.requires.first k l, near_kept s.args.q s.requires.second k l, near_kept s.args.r s.requires.third k l)
 
@@ -20,20 +21,17 @@ module _ (s : goal.Start) (k : ℕ) (l : k < 3) where
   learnt = rw (near_stored s.args.p s.requires.first k l, near_stored s.args.q s.requires.second k l, near_stored s.args.r s.requires.third k l)
 
 pub sum_three-x-requires : goal.sum_three-x-requires
-sum_three-x-requires c = asked c.before.before.before 0 (omega arith)
+sum_three-x-requires c = asked (goal.at.sum_three-x-requires c).Start 0 (omega arith)
 
 pub sum_three-y-requires : goal.sum_three-y-requires
-sum_three-y-requires c = asked c.before.before.before.before.before.before.before 1 (omega arith)
+sum_three-y-requires c = asked (goal.at.sum_three-y-requires c).Start 1 (omega arith)
 
 pub sum_three-z-requires : goal.sum_three-z-requires
-sum_three-z-requires c = asked c.before.before.before.before.before.before.before.before.before.before.before 2 (omega arith)
+sum_three-z-requires c = asked (goal.at.sum_three-z-requires c).Start 2 (omega arith)
 
 pub returns : goal.returns
 returns z =
-    let y = z.before.before.before.before in
-    let x = y.before.before.before.before in
-    let s = x.before.before.before.before in
-    λ i. (back_of w32 _ x.sum_three-x.type_inv ∙ x.sum_three-x.ensures ∙ learnt s 0 (omega arith)) i
-    ∷ (back_of w32 _ y.sum_three-y.type_inv ∙ y.sum_three-y.ensures ∙ learnt s 1 (omega arith)) i
-    ∷ (back_of w32 _ z.sum_three-z.type_inv ∙ z.sum_three-z.ensures ∙ learnt s 2 (omega arith)) i
+    λ i. (back_of w32 _ z.sum_three-x.type_inv ∙ z.sum_three-x.ensures ∙ learnt (goal.at.returns z).Start 0 (omega arith)) i
+    ∷ (back_of w32 _ z.sum_three-y.type_inv ∙ z.sum_three-y.ensures ∙ learnt (goal.at.returns z).Start 1 (omega arith)) i
+    ∷ (back_of w32 _ z.sum_three-z.type_inv ∙ z.sum_three-z.ensures ∙ learnt (goal.at.returns z).Start 2 (omega arith)) i
     ∷ []

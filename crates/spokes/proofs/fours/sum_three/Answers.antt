@@ -6,8 +6,9 @@ use mir.Val.{SFits}
 use mir.Facts.{to_z-of_z}
 use Rattle.laws.proofs.Integers.{nat_abs_add, small_fits}
 use Rattle.spokes.proofs.fours.sum_three.Goals as goal
+use Rattle.spokes.proofs.fours.sum_three.Goals.{Start}
 
-module _ (s : goal.Start) where
+module _ (s : Start) where
   two : SFits w32 (s.args.x +ℤ s.args.y)
   two = small_fits w32 _ (omega (arith, nat_abs_add s.args.x s.args.y))
 

@@ -8,8 +8,9 @@ use mir.Facts.{to_z-of_z}
 use Rattle.laws.proofs.Integers.{nat_abs_add, small_fits}
 use Rattle.points.specs.Internal.Cells.{value}
 use Rattle.spokes.proofs.sums.sum_with.Goals as goal
+use Rattle.spokes.proofs.sums.sum_with.Goals.{Start}
 
-module _ (s : goal.Start) where
+module _ (s : Start) where
   abbrev sum : ℤ
   sum = value s.args.points.now (s.args.to + s.args.k)
 
@@ -26,7 +27,7 @@ module _ (s : goal.Start) where
   all_fits = small_fits w32 _ (omega (arith, s.requires.2, nat_abs_add sum more))
 
 pub overflow_add-result-2 : goal.overflow_add-result-2
-overflow_add-result-2 c = let s = c.before.before in simp (to_z-of_z (sum_fits s), to_z-of_z (more_fits s)) (all_fits s)
+overflow_add-result-2 c = simp (to_z-of_z (sum_fits (goal.at.overflow_add-result-2 c).Start), to_z-of_z (more_fits (goal.at.overflow_add-result-2 c).Start)) (all_fits (goal.at.overflow_add-result-2 c).Start)
 
 pub returns : goal.returns
-returns c = let s = c.before.before in simp (to_z-of_z (sum_fits s), to_z-of_z (more_fits s), to_z-of_z (all_fits s))
+returns c = simp (to_z-of_z (sum_fits (goal.at.returns c).Start), to_z-of_z (more_fits (goal.at.returns c).Start), to_z-of_z (all_fits (goal.at.returns c).Start))

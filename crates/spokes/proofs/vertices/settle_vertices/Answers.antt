@@ -9,9 +9,10 @@ use Rattle.laws.proofs.Steps.{steps_none, steps_on, steps_end, steps_add, steps_
 use Rattle.spokes.specs.Internal.Vertices.{settle}
 use Rattle.spokes.proofs.Settled.{settles_on, own_known, added_known, settle_is}
 use Rattle.spokes.proofs.vertices.settle_vertices.Goals as goal
+use Rattle.spokes.proofs.vertices.settle_vertices.Goals.{At-loop-i-2}
 
 -- the second loop goes on where the first one ended
-so_far : (b : goal.At-loop-i-2) → b.loop-i-2.points ≡ steps b.loop-i-2.i (settle b.args.weight b.args.own.now b.args.vertices) b.args.points.now
+so_far : (b : At-loop-i-2) → b.loop-i-2.points ≡ steps b.loop-i-2.i (settle b.args.weight b.args.own.now b.args.vertices) b.args.points.now
 so_far b =
     let f = settle b.args.weight b.args.own.now b.args.vertices in
     let i₀ = b.loop-i.i in
@@ -43,10 +44,9 @@ loop-i-2-init c = (omega arith, omega (arith, c.requires.0), refl, λ w. steps_e
 
 pub settle_added-requires : goal.settle_added-requires
 settle_added-requires c =
-    let b = c.before.before in
-    let i = b.loop-i-2.i in
-    let turn : b.loop-i-2.i < 3 * b.args.vertices = omega arith in
-    (omega (arith, b.requires.1, b.loop-i-2.invariant.2, b.loop-i.invariant.1), settles_on b.args.weight _ _ _ b.requires.1 i turn (b.requires.2 i turn) (added_known b.args.own.now (i / 3) (omega arith)) (so_far b))
+    let i = c.loop-i-2.i in
+    let turn : c.loop-i-2.i < 3 * c.args.vertices = omega arith in
+    (omega (arith, c.requires.1, c.loop-i-2.invariant.2, c.loop-i.invariant.1), settles_on c.args.weight _ _ _ c.requires.1 i turn (c.requires.2 i turn) (added_known c.args.own.now (i / 3) (omega arith)) (so_far (goal.at.settle_added-requires c).At-loop-i-2))
 
 pub loop-i-2-preserved : goal.loop-i-2-preserved
 loop-i-2-preserved c =
@@ -59,4 +59,4 @@ loop-i-2-preserved c =
     )
 
 pub returns : goal.returns
-returns c = steps_end _ _ (so_far c.before) (omega arith)
+returns c = steps_end _ _ (so_far (goal.at.returns c).At-loop-i-2) (omega arith)

@@ -7,11 +7,12 @@ use lib.IntN.{ℤ}
 use Rattle.points.specs.Operations.{unshaped}
 use Rattle.stl.proofs.Verdict.{shape_given, limit_given, corner-given, points_given}
 use Rattle.stl.proofs.checks.check_level.Goals as goal
+use Rattle.stl.proofs.checks.check_level.Goals.{Else-vert-gt-LONGEST, Start}
 
 -- where 1 and 2 are passed
-module _ (i : goal.Else-vert-gt-LONGEST) where
-  abbrev start : goal.Start
-  start = i.before.before.before.before
+module _ (i : Else-vert-gt-LONGEST) where
+  abbrev start : Start
+  start = (goal.at.Else-vert-gt-LONGEST i).Start
 
   abbrev vert : List ℕ
   vert = start.args.vert.now
@@ -30,14 +31,9 @@ returns-then-vert-gt-LONGEST c = limit_given _ _ (sym c.unshaped.ensures ∙ c.i
 
 pub returns-then-number-ne0 : goal.returns-then-number-ne0
 returns-then-number-ne0 c =
-    let n = c.before in
-    let k = n.before in
-    corner-given (vert k.before) (points k.before) (shape k.before) k.if-vert-gt-LONGEST.false k.check_corners-placed.ensures n.number.ensures c.if-number-ne0.true
+    corner-given (vert (goal.at.returns-then-number-ne0 c).Else-vert-gt-LONGEST) (points (goal.at.returns-then-number-ne0 c).Else-vert-gt-LONGEST) (shape (goal.at.returns-then-number-ne0 c).Else-vert-gt-LONGEST) c.if-vert-gt-LONGEST.false c.check_corners-placed.ensures c.number.ensures c.if-number-ne0.true
 
 pub returns : goal.returns
 returns c =
-    let o = c.before in
-    let n = o.before in
-    let k = n.before in
     c.check_points.ensures
-    ∙ points_given (vert k.before) (points k.before) (shape k.before) k.if-vert-gt-LONGEST.false k.check_corners-placed.ensures n.number.ensures o.if-number-ne0.false
+    ∙ points_given (vert (goal.at.returns c).Else-vert-gt-LONGEST) (points (goal.at.returns c).Else-vert-gt-LONGEST) (shape (goal.at.returns c).Else-vert-gt-LONGEST) c.if-vert-gt-LONGEST.false c.check_corners-placed.ensures c.number.ensures c.if-number-ne0.false

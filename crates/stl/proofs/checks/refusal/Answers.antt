@@ -8,11 +8,12 @@ use Rattle.halfedges.proofs.Told.{zero_done}
 use Rattle.stl.specs.Internal.Facets.{Ready}
 use Rattle.stl.proofs.Verdict.{checked_ready, level-refused, file-short, file_roomy}
 use Rattle.stl.proofs.checks.refusal.Goals as goal
+use Rattle.stl.proofs.checks.refusal.Goals.{Else-number-ne0, Start}
 
 -- where the level is passed
-module _ (i : goal.Else-number-ne0) where
-  abbrev start : goal.Start
-  start = i.before.before.before.before.before
+module _ (i : Else-number-ne0) where
+  abbrev start : Start
+  start = (goal.at.Else-number-ne0 i).Start
 
   abbrev vert : List ℕ
   vert = start.args.vert.now
@@ -38,12 +39,10 @@ overflow_add-vert c = omega (arith, (ready c).few)
 
 pub returns-then-file-vert : goal.returns-then-file-vert
 returns-then-file-vert c =
-    let i = c.before in
-    let k = i.check_level-answer in
-    file-short (vert i) (points i) _ k.result k.ensures i.number.ensures i.if-number-ne0.false c.if-file-vert.true
+    let k = c.check_level-answer in
+    file-short (vert (goal.at.returns-then-file-vert c).Else-number-ne0) (points (goal.at.returns-then-file-vert c).Else-number-ne0) _ k.result k.ensures c.number.ensures c.if-number-ne0.false c.if-file-vert.true
 
 pub returns : goal.returns
 returns c =
-    let i = c.before in
-    let k = i.check_level-answer in
-    file_roomy (vert i) (points i) _ k.result k.ensures i.number.ensures i.if-number-ne0.false c.if-file-vert.false
+    let k = c.check_level-answer in
+    file_roomy (vert (goal.at.returns c).Else-number-ne0) (points (goal.at.returns c).Else-number-ne0) _ k.result k.ensures c.number.ensures c.if-number-ne0.false c.if-file-vert.false

@@ -11,11 +11,12 @@ use Rattle.halfedges.specs.Cage.{F}
 use Rattle.halfedges.specs.Corners.{corners}
 use Rattle.stl.proofs.FacetLaws.{triangle_placed, filled_as, facet_numbers, facet_bytes_lem, facets, facet_written, facets_keep}
 use Rattle.stl.proofs.file.put_facets.Goals as goal
+use Rattle.stl.proofs.file.put_facets.Goals.{At-loop-triangle, Start}
 
 -- where the loop stands
-module _ (l : goal.At-loop-triangle) where
-  abbrev start : goal.Start
-  start = l.before.before.before.before.before
+module _ (l : At-loop-triangle) where
+  abbrev start : Start
+  start = (goal.at.At-loop-triangle l).Start
 
   abbrev vert : List ℕ
   vert = start.args.vert.now
@@ -32,36 +33,28 @@ loop-triangle-init c = (omega arith, refl, refl, filled_as c.corners_of.ensures 
 
 pub facet_of-next-requires : goal.facet_of-next-requires
 facet_of-next-requires c =
-    let l = c.before.before in
-    (triangle_placed (vert l) (points l) (start l).requires.0.drawn (l.loop-triangle.triangle + 1) (omega arith) c.corners_of-in-loop-triangle.ensures, (start l).requires.0.drawn.ranged)
+    (triangle_placed (vert (goal.at.facet_of-next-requires c).At-loop-triangle) (points (goal.at.facet_of-next-requires c).At-loop-triangle) (start (goal.at.facet_of-next-requires c).At-loop-triangle).requires.0.drawn (c.loop-triangle.triangle + 1) (omega arith) c.corners_of-in-loop-triangle.ensures, (start (goal.at.facet_of-next-requires c).At-loop-triangle).requires.0.drawn.ranged)
 
 pub put_facet-requires : goal.put_facet-requires
 put_facet-requires c =
-    let l = c.before.before.before.before in
-    (search rules, facet_numbers (start l).requires.0.drawn.ranged l.loop-triangle.invariant.3)
+    (search rules, facet_numbers (start (goal.at.put_facet-requires c).At-loop-triangle).requires.0.drawn.ranged c.loop-triangle.invariant.3)
 
 pub loop-triangle-preserved : goal.loop-triangle-preserved
 loop-triangle-preserved c =
-    let put = c.before.before in
-    let next = put.before.before in
-    let l = next.before.before.before in
-    let e = facet_written (vert l) (points l) (start l).args.part.now l.loop-triangle.part _ _ l.loop-triangle.triangle l.loop-triangle.invariant.2 put.put_facet.ensures (facet_bytes_lem (start l).requires.0.drawn.ranged l.loop-triangle.invariant.3) in
-    (omega arith, facets_keep (vert l) (points l) _ _ (l.loop-triangle.triangle + 1) (omega arith) e, e, filled_as next.corners_of-in-loop-triangle.ensures next.facet_of-next.ensures)
+    let e = facet_written (vert (goal.at.loop-triangle-preserved c).At-loop-triangle) (points (goal.at.loop-triangle-preserved c).At-loop-triangle) (start (goal.at.loop-triangle-preserved c).At-loop-triangle).args.part.now c.loop-triangle.part _ _ c.loop-triangle.triangle c.loop-triangle.invariant.2 c.put_facet.ensures (facet_bytes_lem (start (goal.at.loop-triangle-preserved c).At-loop-triangle).requires.0.drawn.ranged c.loop-triangle.invariant.3) in
+    (omega arith, facets_keep (vert (goal.at.loop-triangle-preserved c).At-loop-triangle) (points (goal.at.loop-triangle-preserved c).At-loop-triangle) _ _ (c.loop-triangle.triangle + 1) (omega arith) e, e, filled_as c.corners_of-in-loop-triangle.ensures c.facet_of-next.ensures)
 
 pub put_facet-requires-2 : goal.put_facet-requires-2
 put_facet-requires-2 c =
-    let l = c.before.before in
-    (search rules, facet_numbers (start l).requires.0.drawn.ranged l.loop-triangle.invariant.3)
+    (search rules, facet_numbers (start (goal.at.put_facet-requires-2 c).At-loop-triangle).requires.0.drawn.ranged c.loop-triangle.invariant.3)
 
 pub returns : goal.returns
 returns c =
-    let put = c.before.before in
-    let l = put.before.before.before in
-    let d = (start l).args.part.now in
-    let n = F (length (vert l)) - 1 in
-    let last : l.loop-triangle.triangle ≡ n = omega arith in
-    let all : n + 1 ≡ F (length (vert l)) = omega arith in
-    let so_far : l.loop-triangle.part ≡ in_front (facets (vert l) (points l) n) d = l.loop-triangle.invariant.2 ∙ ap (λ k. in_front (facets (vert l) (points l) k) d) last in
-    let filled = filled_as (ap (corners (vert l)) last) l.loop-triangle.invariant.3 in
-    facet_written (vert l) (points l) d l.loop-triangle.part _ _ n so_far put.put_facet-2.ensures (facet_bytes_lem (start l).requires.0.drawn.ranged filled)
-    ∙ ap (λ k. in_front (facets (vert l) (points l) k) d) all
+    let d = (start (goal.at.returns c).At-loop-triangle).args.part.now in
+    let n = F (length (vert (goal.at.returns c).At-loop-triangle)) - 1 in
+    let last : c.loop-triangle.triangle ≡ n = omega arith in
+    let all : n + 1 ≡ F (length (vert (goal.at.returns c).At-loop-triangle)) = omega arith in
+    let so_far : c.loop-triangle.part ≡ in_front (facets (vert (goal.at.returns c).At-loop-triangle) (points (goal.at.returns c).At-loop-triangle) n) d = c.loop-triangle.invariant.2 ∙ ap (λ k. in_front (facets (vert (goal.at.returns c).At-loop-triangle) (points (goal.at.returns c).At-loop-triangle) k) d) last in
+    let filled = filled_as (ap (corners (vert (goal.at.returns c).At-loop-triangle)) last) c.loop-triangle.invariant.3 in
+    facet_written (vert (goal.at.returns c).At-loop-triangle) (points (goal.at.returns c).At-loop-triangle) d c.loop-triangle.part _ _ n so_far c.put_facet-2.ensures (facet_bytes_lem (start (goal.at.returns c).At-loop-triangle).requires.0.drawn.ranged filled)
+    ∙ ap (λ k. in_front (facets (vert (goal.at.returns c).At-loop-triangle) (points (goal.at.returns c).At-loop-triangle) k) d) all

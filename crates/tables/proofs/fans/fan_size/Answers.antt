@@ -5,15 +5,16 @@ use native.Mathlib.Omega.{arith}
 use Rattle.halfedges.specs.Cage.{NEXT}
 use Rattle.tables.proofs.Walks.{against, Walked, start, last_below, few_met, against_on, against_round, against_border}
 use Rattle.tables.proofs.fans.fan_size.Goals as goal
+use Rattle.tables.proofs.fans.fan_size.Goals.{After-next-corner, Else-corner-halfedge}
 
-following : (c : goal.After-next-corner) → c.next-corner.result ≡ NEXT c.loop-other.other
+following : (c : After-next-corner) → c.next-corner.result ≡ NEXT c.loop-other.other
 following c = c.next-corner.ensures ∙ ap NEXT c.wide.ensures
 
 -- one halfedge more
-behind : (c : goal.Else-corner-halfedge) → Walked c.args.twin.now against c.args.halfedge (c.loop-other.size + 1) c.next-corner.result
+behind : (c : Else-corner-halfedge) → Walked c.args.twin.now against c.args.halfedge (c.loop-other.size + 1) c.next-corner.result
 behind c =
     let i = c.loop-other.invariant in
-    rw (following c.before) (against_on _ c.requires.0 i.0 i.1 c.loop-other-test.true (λ e. c.if-corner-halfedge.false (following c.before ∙ e)))
+    rw (following (goal.at.Else-corner-halfedge c).After-next-corner) (against_on _ c.requires.0 i.0 i.1 c.loop-other-test.true (λ e. c.if-corner-halfedge.false (following (goal.at.Else-corner-halfedge c).After-next-corner ∙ e)))
 
 pub loop-other-init : goal.loop-other-init
 loop-other-init c = (start _ c.requires.0 against _ c.requires.1, refl)
@@ -26,7 +27,7 @@ next-corner-requires c =
 pub returns-then-corner-halfedge : goal.returns-then-corner-halfedge
 returns-then-corner-halfedge c =
     let i = c.loop-other.invariant in
-    against_round _ c.requires.0 i.0 i.1 c.loop-other-test.true (sym (following c.before) ∙ c.if-corner-halfedge.true)
+    against_round _ c.requires.0 i.0 i.1 c.loop-other-test.true (sym (following (goal.at.returns-then-corner-halfedge c).After-next-corner) ∙ c.if-corner-halfedge.true)
 
 pub overflow_add-size : goal.overflow_add-size
 overflow_add-size c = omega (arith, c.requires.0.few, few_met _ c.requires.0 (behind c))
@@ -35,13 +36,13 @@ pub offset_bounds-twin-corner-in-loop-other : goal.offset_bounds-twin-corner-in-
 offset_bounds-twin-corner-in-loop-other c = omega (arith, last_below _ c.requires.0 (behind c))
 
 pub bounds-twin-corner-in-loop-other : goal.bounds-twin-corner-in-loop-other
-bounds-twin-corner-in-loop-other c = last_below _ c.requires.0 (behind c.before)
+bounds-twin-corner-in-loop-other c = last_below _ c.requires.0 (behind (goal.at.bounds-twin-corner-in-loop-other c).Else-corner-halfedge)
 
 pub loop-other-smaller : goal.loop-other-smaller
-loop-other-smaller c = omega (arith, few_met _ c.requires.0 (behind c.before))
+loop-other-smaller c = omega (arith, few_met _ c.requires.0 (behind (goal.at.loop-other-smaller c).Else-corner-halfedge))
 
 pub loop-other-preserved : goal.loop-other-preserved
-loop-other-preserved c = (behind c.before, refl)
+loop-other-preserved c = (behind (goal.at.loop-other-preserved c).Else-corner-halfedge, refl)
 
 pub open_fan_size-requires : goal.open_fan_size-requires
 open_fan_size-requires c = let i = c.loop-other.invariant in (c.requires.0, last_below _ c.requires.0 i.0, sym i.1 ∙ c.loop-other-test.false)

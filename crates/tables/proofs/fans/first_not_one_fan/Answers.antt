@@ -10,32 +10,32 @@ use Rattle.tables.specs.Internal.Walks.{Corner}
 use Rattle.tables.proofs.Upto.{upto_none, upto_more, upto_found, upto_all}
 use Rattle.tables.proofs.Corners.{fan_counted, kept_corner}
 use Rattle.tables.proofs.fans.first_not_one_fan.Goals as goal
+use Rattle.tables.proofs.fans.first_not_one_fan.Goals.{After-wide, In-loop-vertex}
 
-corner : (c : goal.In-loop-vertex) → Corner c.args.vert.now c.loop-vertex.vertex (cell c.args.kept.now c.loop-vertex.vertex)
+corner : (c : In-loop-vertex) → Corner c.args.vert.now c.loop-vertex.vertex (cell c.args.kept.now c.loop-vertex.vertex)
 corner c =
     kept_corner _ _ _ c.requires.1.corner c.requires.0.used c.loop-vertex.vertex c.loop-vertex-test.true
 
 -- what is compared is rule 7
-says : (c : goal.After-wide) → not_one_fan c.args.twin.now c.args.vert.now c.loop-vertex.vertex ≡ not (eqb c.fan_size-size.result c.wide.result)
+says : (c : After-wide) → not_one_fan c.args.twin.now c.args.vert.now c.loop-vertex.vertex ≡ not (eqb c.fan_size-size.result c.wide.result)
 says c =
-    let l = c.before.before.before.before.before in
-    rw (c.fan_size-size.ensures, c.wide-corner.ensures, c.wide.ensures, l.requires.1.tally.counted.each l.loop-vertex.vertex (omega arith))
-    (fan_counted _ _ _ l.requires.0.walkable l.requires.0.long l.requires.0.placed l.loop-vertex.vertex _ (corner l))
+    rw (c.fan_size-size.ensures, c.wide-corner.ensures, c.wide.ensures, c.requires.1.tally.counted.each c.loop-vertex.vertex (omega arith))
+    (fan_counted _ _ _ c.requires.0.walkable c.requires.0.long c.requires.0.placed c.loop-vertex.vertex _ (corner (goal.at.After-wide c).In-loop-vertex))
 
 pub loop-vertex-init : goal.loop-vertex-init
 loop-vertex-init c = upto_none _ _
 
 pub fan_size-size-requires : goal.fan_size-size-requires
 fan_size-size-requires c =
-    (c.requires.0.walkable, omega (arith, c.wide-corner.ensures, c.requires.0.long, (corner c.before.before).below))
+    (c.requires.0.walkable, omega (arith, c.wide-corner.ensures, c.requires.0.long, (corner (goal.at.fan_size-size-requires c).In-loop-vertex).below))
 
 pub returns-then-size-wide : goal.returns-then-size-wide
 returns-then-size-wide c =
-    upto_found _ c.loop-vertex.invariant c.loop-vertex-test.true (sym (says c.before)) (ap not (ne_eqb _ _ c.if-size-wide.true))
+    upto_found _ c.loop-vertex.invariant c.loop-vertex-test.true (sym (says (goal.at.returns-then-size-wide c).After-wide)) (ap not (ne_eqb _ _ c.if-size-wide.true))
 
 pub loop-vertex-preserved : goal.loop-vertex-preserved
 loop-vertex-preserved c =
-    upto_more c.loop-vertex.invariant c.loop-vertex-test.true (sym (says c.before)) (ap not (eq-eqb _ _ c.if-size-wide.false))
+    upto_more c.loop-vertex.invariant c.loop-vertex-test.true (sym (says (goal.at.loop-vertex-preserved c).After-wide)) (ap not (eq-eqb _ _ c.if-size-wide.false))
 
 pub returns : goal.returns
 returns c = upto_all _ c.loop-vertex.invariant c.loop-vertex-test.false

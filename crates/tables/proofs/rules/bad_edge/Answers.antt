@@ -8,12 +8,13 @@ use Rattle.halfedges.specs.Cage.{cell}
 use Rattle.tables.specs.Tables.{leaves}
 use Rattle.tables.proofs.RuleTests.{edge_past_lem, edge_none, edge_differs_lem, edge_twin}
 use Rattle.tables.proofs.rules.bad_edge.Goals as goal
+use Rattle.tables.proofs.rules.bad_edge.Goals.{After-wide-other, Start}
 
 -- what the tally says of a halfedge's edge
-carriers_of : (s : goal.Start) → cell s.args.edge.now s.args.halfedge < s.args.edges → get_or s.args.carriers.now (cell s.args.edge.now s.args.halfedge) 0 ≡ count (length s.args.edge.now) (leaves s.args.edge.now (cell s.args.edge.now s.args.halfedge))
+carriers_of : (s : Start) → cell s.args.edge.now s.args.halfedge < s.args.edges → get_or s.args.carriers.now (cell s.args.edge.now s.args.halfedge) 0 ≡ count (length s.args.edge.now) (leaves s.args.edge.now (cell s.args.edge.now s.args.halfedge))
 carriers_of s l = s.requires.1.counted.each _ (omega (arith, s.requires.1.room))
 
-twin_inside : (c : goal.After-wide-other) → c.wide-other.result < length c.args.edge.now
+twin_inside : (c : After-wide-other) → c.wide-other.result < length c.args.edge.now
 twin_inside c = omega (arith, c.wide-other.ensures, c.requires.0.long, c.requires.0.paired.below _ c.requires.2 c.if-t.false)
 
 pub returns-then-edges-number : goal.returns-then-edges-number
@@ -21,16 +22,14 @@ returns-then-edges-number c = edge_past_lem _ _ _ _ (rw c.wide-number.ensures at
 
 pub returns-then-t : goal.returns-then-t
 returns-then-t c =
-    let w = c.before.before.before.before in
-    let s = w.before.before.before.before.before in
-    let l = rw w.wide-number.ensures at c.if-edges-number.false in
-    rw (w.wide-number.ensures, carriers_of s l) (edge_none _ _ _ _ s.requires.0.long (omega (arith, s.requires.0.few)) s.requires.2 l c.if-t.true)
+    let l = rw c.wide-number.ensures at c.if-edges-number.false in
+    rw (c.wide-number.ensures, carriers_of (goal.at.returns-then-t c).Start l) (edge_none _ _ _ _ c.requires.0.long (omega (arith, c.requires.0.few)) c.requires.2 l c.if-t.true)
 
 pub offset_bounds-edge-other : goal.offset_bounds-edge-other
 offset_bounds-edge-other c = omega (arith, twin_inside c)
 
 pub bounds-edge-other : goal.bounds-edge-other
-bounds-edge-other c = twin_inside c.before
+bounds-edge-other c = twin_inside (goal.at.bounds-edge-other c).After-wide-other
 
 pub returns-then-edge-other : goal.returns-then-edge-other
 returns-then-edge-other c =
@@ -39,8 +38,6 @@ returns-then-edge-other c =
 
 pub returns : goal.returns
 returns c =
-    let w = c.before.before.before.before.before.before.before in
-    let s = w.before.before.before.before.before in
-    let l = rw w.wide-number.ensures at c.if-edges-number.false in
-    rw (w.wide-number.ensures, carriers_of s l)
-    (edge_twin _ _ _ _ s.requires.0.long (omega (arith, s.requires.0.few)) s.requires.2 l s.requires.0.paired c.if-t.false (sym (ap (cell s.args.edge.now) c.wide-other.ensures) ∙ c.if-edge-other.false))
+    let l = rw c.wide-number.ensures at c.if-edges-number.false in
+    rw (c.wide-number.ensures, carriers_of (goal.at.returns c).Start l)
+    (edge_twin _ _ _ _ c.requires.0.long (omega (arith, c.requires.0.few)) c.requires.2 l c.requires.0.paired c.if-t.false (sym (ap (cell c.args.edge.now) c.wide-other.ensures) ∙ c.if-edge-other.false))

@@ -14,10 +14,7 @@ loop-halfedge-init c = (search rules, search rules, search rules, refl)
 
 pub put_edge-edges-requires : goal.put_edge-edges-requires
 put_edge-edges-requires c =
-    let i = c.loop-halfedge in (
-      (search rules, omega (arith, c.requires.2, i.invariant.0)),
-      (omega (arith, c.requires.1), omega (arith, i.invariant.2, count_at_most i.halfedge (is_lowest c.args.twin.now))),
-    )
+    let i = c.loop-halfedge in record { halfedge_in_bounds = (search rules, omega (arith, c.requires.2, i.invariant.0)); halfedge_lt_most_halfedges = (omega (arith, c.requires.1), omega (arith, i.invariant.2, count_at_most i.halfedge (is_lowest c.args.twin.now))) }
 
 pub loop-halfedge-preserved : goal.loop-halfedge-preserved
 loop-halfedge-preserved c =

@@ -12,11 +12,12 @@ use Rattle.halfedges.specs.Cage.{cell}
 use Rattle.triangles.specs.Internal.Joining.{Whole}
 use Rattle.triangles.proofs.Renumbered.{doubled_same, twins_same}
 use Rattle.triangles.proofs.twins.build_twins.Goals as goal
+use Rattle.triangles.proofs.twins.build_twins.Goals.{After-narrow, Start}
 
 -- once the corners are narrowed: small numbers that are the same where they are
-module _ (c : goal.After-narrow) where
-  abbrev start : goal.Start
-  start = c.before.before.before.before.before.before
+module _ (c : After-narrow) where
+  abbrev start : Start
+  start = (goal.at.After-narrow c).Start
 
   abbrev vert : List ℕ
   vert = start.args.vert.now
@@ -49,17 +50,15 @@ pub join-requires : goal.join-requires
 join-requires c = (c.requires.0, c.are_small.ensures c.if-are_small.true, c.requires.1)
 
 pub slice_bounds-join-end : goal.slice_bounds-join-end
-slice_bounds-join-end c = sym (long c.before.before)
+slice_bounds-join-end c = sym (long (goal.at.slice_bounds-join-end c).After-narrow)
 
 pub join-requires-2 : goal.join-requires-2
-join-requires-2 c = let n = c.before.before.before in (whole n, small n, omega (arith, long n, (start n).requires.1))
+join-requires-2 c = (whole (goal.at.join-requires-2 c).After-narrow, small (goal.at.join-requires-2 c).After-narrow, omega (arith, long (goal.at.join-requires-2 c).After-narrow, (start (goal.at.join-requires-2 c).After-narrow).requires.1))
 
 pub returns : goal.returns
 returns c =
-    let j = c.before.before in
-    let n = j.before.before.before.before in
-    let w = (start n).requires.0 in
+    let w = (start (goal.at.returns c).After-narrow).requires.0 in
     record {
-      first = j.join-2.ensures.first ∙ doubled_same (vert n) (corners n) w (long n) (same n);
-      twins = λ l. j.join-2.ensures.twins (omega (arith, l, long n)) ∙ ap (λ t. in_front t (start n).args.twin.now) (twins_same (vert n) (corners n) w (long n) (same n));
+      first = c.join-2.ensures.first ∙ doubled_same (vert (goal.at.returns c).After-narrow) (corners (goal.at.returns c).After-narrow) w (long (goal.at.returns c).After-narrow) (same (goal.at.returns c).After-narrow);
+      twins = λ l. c.join-2.ensures.twins (omega (arith, l, long (goal.at.returns c).After-narrow)) ∙ ap (λ t. in_front t (start (goal.at.returns c).After-narrow).args.twin.now) (twins_same (vert (goal.at.returns c).After-narrow) (corners (goal.at.returns c).After-narrow) w (long (goal.at.returns c).After-narrow) (same (goal.at.returns c).After-narrow));
     }

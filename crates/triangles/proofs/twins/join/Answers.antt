@@ -8,14 +8,15 @@ use Rattle.laws.proofs.Tabulate.{length-tabulate}
 use Rattle.halfedges.specs.Cage.{NEXT, cell}
 use Rattle.triangles.specs.Internal.Joining.{end_table}
 use Rattle.triangles.proofs.twins.join.Goals as goal
+use Rattle.triangles.proofs.twins.join.Goals.{After-list_ends, Start}
 
 ends_many : (vert : List ℕ) → length (end_table vert) ≡ length vert
 ends_many vert = length-tabulate (length vert) (λ h. cell vert (NEXT h))
 
 -- once the ends are listed
-module _ (c : goal.After-list_ends) where
-  abbrev start : goal.Start
-  start = c.before.before.before.before
+module _ (c : After-list_ends) where
+  abbrev start : Start
+  start = (goal.at.After-list_ends c).Start
 
   abbrev vert : List ℕ
   vert = start.args.vert.now
@@ -24,7 +25,7 @@ module _ (c : goal.After-list_ends) where
   listed = taken_in_front (end_table vert) _ c.list_ends.ensures (sym (ends_many vert))
 
 pub slice_bounds-join_ends-end : goal.slice_bounds-join_ends-end
-slice_bounds-join_ends-end c = let e = c.before.before in sym (ap length (listed e) ∙ ends_many (vert e))
+slice_bounds-join_ends-end c = sym (ap length (listed (goal.at.slice_bounds-join_ends-end c).After-list_ends) ∙ ends_many (vert (goal.at.slice_bounds-join_ends-end c).After-list_ends))
 
 pub join_ends-requires : goal.join_ends-requires
-join_ends-requires c = let e = c.before.before.before in (record { whole = (start e).requires.0; small = (start e).requires.1; listed = listed e }, (start e).requires.2)
+join_ends-requires c = (record { whole = (start (goal.at.join_ends-requires c).After-list_ends).requires.0; small = (start (goal.at.join_ends-requires c).After-list_ends).requires.1; listed = listed (goal.at.join_ends-requires c).After-list_ends }, (start (goal.at.join_ends-requires c).After-list_ends).requires.2)

@@ -8,11 +8,12 @@ use Rattle.halfedges.specs.Cage.{NEXT, cell}
 use Rattle.halfedges.proofs.Triangle.{next_below, prev_below}
 use Rattle.triangles.proofs.Doubles.{ends_long, end_at}
 use Rattle.triangles.proofs.twins.join_corner.Goals as goal
+use Rattle.triangles.proofs.twins.join_corner.Goals.{After-previous-previous, Start}
 
 -- once the halfedge before is known
-module _ (p : goal.After-previous-previous) where
-  abbrev start : goal.Start
-  start = p.before.before.before.before.before
+module _ (p : After-previous-previous) where
+  abbrev start : Start
+  start = (goal.at.After-previous-previous p).Start
 
   inside : p.previous-previous.result < length start.args.vert.now
   inside = omega (arith, p.previous-previous.ensures, prev_below start.requires.ended.0.whole.whole start.requires.ended.1)
@@ -29,41 +30,41 @@ pub offset_bounds-vert-previous : goal.offset_bounds-vert-previous
 offset_bounds-vert-previous c = omega (arith, inside c, (start c).requires.ended.0.whole.few)
 
 pub bounds-vert-previous : goal.bounds-vert-previous
-bounds-vert-previous c = inside c.before
+bounds-vert-previous c = inside (goal.at.bounds-vert-previous c).After-previous-previous
 
 pub overflow_cast-start : goal.overflow_cast-start
-overflow_cast-start c = omega (arith, small c.before)
+overflow_cast-start c = omega (arith, small (goal.at.overflow_cast-start c).After-previous-previous)
 
 pub offset_bounds-marks-start : goal.offset_bounds-marks-start
-offset_bounds-marks-start c = omega (arith, small c.before)
+offset_bounds-marks-start c = omega (arith, small (goal.at.offset_bounds-marks-start c).After-previous-previous)
 
 pub bounds-marks-start : goal.bounds-marks-start
-bounds-marks-start c = let p = c.before.before in omega (arith, small p, (start p).requires.bound_in_bounds.0)
+bounds-marks-start c = omega (arith, small (goal.at.bounds-marks-start c).After-previous-previous, (start (goal.at.bounds-marks-start c).After-previous-previous).requires.bound_in_bounds.0)
 
 pub twin_of-requires : goal.twin_of-requires
-twin_of-requires c = let p = c.before.before in ((start p).requires.ended.0, inside p)
+twin_of-requires c = ((start (goal.at.twin_of-requires c).After-previous-previous).requires.ended.0, inside (goal.at.twin_of-requires c).After-previous-previous)
 
 pub offset_bounds-twin-previous : goal.offset_bounds-twin-previous
-offset_bounds-twin-previous c = let p = c.before.before.before in omega (arith, inside p, (start p).requires.ended.0.whole.few)
+offset_bounds-twin-previous c = omega (arith, inside (goal.at.offset_bounds-twin-previous c).After-previous-previous, (start (goal.at.offset_bounds-twin-previous c).After-previous-previous).requires.ended.0.whole.few)
 
 pub bounds-twin-previous : goal.bounds-twin-previous
-bounds-twin-previous c = let p = c.before.before.before in omega (arith, inside p, (start p).requires.bound_in_bounds.1)
+bounds-twin-previous c = omega (arith, inside (goal.at.bounds-twin-previous c).After-previous-previous, (start (goal.at.bounds-twin-previous c).After-previous-previous).requires.bound_in_bounds.1)
 
 pub bounds-ends-halfedge : goal.bounds-ends-halfedge
-bounds-ends-halfedge c = let s = start c.before.before.before.before in omega (arith, s.requires.ended.1, ends_long s.requires.ended.0)
+bounds-ends-halfedge c = let s = start (goal.at.bounds-ends-halfedge c).After-previous-previous in omega (arith, s.requires.ended.1, ends_long s.requires.ended.0)
 
 pub overflow_cast-end : goal.overflow_cast-end
-overflow_cast-end c = omega (arith, end_small c.before.before.before.before)
+overflow_cast-end c = omega (arith, end_small (goal.at.overflow_cast-end c).After-previous-previous)
 
 pub offset_bounds-marks-end : goal.offset_bounds-marks-end
-offset_bounds-marks-end c = omega (arith, end_small c.before.before.before.before)
+offset_bounds-marks-end c = omega (arith, end_small (goal.at.offset_bounds-marks-end c).After-previous-previous)
 
 pub bounds-marks-end : goal.bounds-marks-end
-bounds-marks-end c = let p = c.before.before.before.before.before in omega (arith, end_small p, (start p).requires.bound_in_bounds.0)
+bounds-marks-end c = omega (arith, end_small (goal.at.bounds-marks-end c).After-previous-previous, (start (goal.at.bounds-marks-end c).After-previous-previous).requires.bound_in_bounds.0)
 
 pub overflow_cast-marks : goal.overflow_cast-marks
-overflow_cast-marks c = let s = start c.before.before.before.before.before in omega (arith, c.shared_slice_known-7-1.given (cell s.args.ends.now s.args.halfedge))
+overflow_cast-marks c = let s = start (goal.at.overflow_cast-marks c).After-previous-previous in omega (arith, c.shared_slice_known-7-1.given (cell s.args.ends.now s.args.halfedge))
 
 pub returns : goal.returns
 returns c =
-    (c.lower_place.ensures, rw (c.twin_of.ensures, c.previous-previous.ensures) refl)
+    record { lower = c.lower_place.ensures; twin_after = rw (c.twin_of.ensures, c.previous-previous.ensures) refl }

@@ -5,4 +5,4 @@ use Rattle.triangles.proofs.Doubles.{ends_keyed}
 use Rattle.triangles.proofs.twins.join_ends.Goals as goal
 
 pub chain-requires : goal.chain-requires
-chain-requires c = ((ends_keyed c.requires.0, refl, c.requires.0.whole.few), λ g l. get_or-replicate 4096 g 0 0 l)
+chain-requires c = record { keyed = (ends_keyed c.requires.0, refl, c.requires.0.whole.few); by_index = λ g l. get_or-replicate 4096 g 0 0 l }
