@@ -29,7 +29,7 @@ mark-requires c = (followed (goal.at.mark-requires c).In-loop-group, omega (arit
 
 pub tell-requires : goal.tell-requires
 tell-requires c =
-    record { chain = (followed (goal.at.tell-requires c).At-loop-group, c.mark.ensures); bound_in_bounds = (omega (arith, c.mark.auto.marks, (start (goal.at.tell-requires c).At-loop-group).requires.bound_in_bounds.0, c.loop-group.invariant.0), omega (arith, (start (goal.at.tell-requires c).At-loop-group).requires.bound_in_bounds.1, c.loop-group.invariant.1)) }
+    record { chain = (followed (goal.at.tell-requires c).In-loop-group, c.mark.ensures); bound_in_bounds = (omega (arith, c.mark.auto.marks, (start (goal.at.tell-requires c).In-loop-group).requires.bound_in_bounds.0, c.loop-group.invariant.0), omega (arith, (start (goal.at.tell-requires c).In-loop-group).requires.bound_in_bounds.1, c.loop-group.invariant.1)) }
 
 pub overflow_add-group : goal.overflow_add-group
 overflow_add-group c = omega (arith, c.loop-group.invariant.2)
@@ -42,7 +42,7 @@ loop-group-preserved c =
     let v = c.loop-group.invariant in (
       c.mark.auto.marks ∙ v.0,
       c.tell.auto.first ∙ v.1,
-      omega (arith, c.loop-group-test.true, (start (goal.at.loop-group-preserved c).At-loop-group).requires.ready.buckets),
+      omega (arith, c.loop-group-test.true, (start (goal.at.loop-group-preserved c).In-loop-group).requires.ready.buckets),
       groups_on _ _ _ _ _ c.tell.ensures v.3,
     )
 

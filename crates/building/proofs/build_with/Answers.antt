@@ -37,12 +37,12 @@ pub slice_bounds-write_built-end : goal.slice_bounds-write_built-end
 slice_bounds-write_built-end c = fits c
 
 pub slice_bounds-write_built-end-2 : goal.slice_bounds-write_built-end-2
-slice_bounds-write_built-end-2 c = sym (length-take-le _ _ (fits (goal.at.slice_bounds-write_built-end-2 c).After-number))
+slice_bounds-write_built-end-2 c = sym (length-take-le _ _ (fits (goal.at.slice_bounds-write_built-end-2 c).Else-number-ne0))
 
 pub write_built-requires : goal.write_built-requires
-write_built-requires c = writable _ _ _ _ (done (goal.at.write_built-requires c).After-number) (built (goal.at.write_built-requires c).After-number)
+write_built-requires c = writable _ _ _ _ (done (goal.at.write_built-requires c).Else-number-ne0) (built (goal.at.write_built-requires c).Else-number-ne0)
 
 pub returns : goal.returns
 returns c =
     let e = c.write_built.ensures in
-    build_done _ _ _ _ (done (goal.at.returns c).After-number) (built (goal.at.returns c).After-number) e.0 e.1.0 e.1.1
+    build_done _ _ _ _ (done (goal.at.returns c).Else-number-ne0) (built (goal.at.returns c).Else-number-ne0) e.0 e.1.0 e.1.1

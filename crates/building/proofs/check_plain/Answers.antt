@@ -47,16 +47,16 @@ pub slice_bounds-check_built-end : goal.slice_bounds-check_built-end
 slice_bounds-check_built-end c = fits (goal.at.slice_bounds-check_built-end c).After-build_twins-place
 
 pub slice_bounds-check_built-end-2 : goal.slice_bounds-check_built-end-2
-slice_bounds-check_built-end-2 c = sym (length-take-le _ _ (fits (goal.at.slice_bounds-check_built-end-2 c).After-build_twins-arg-1))
+slice_bounds-check_built-end-2 c = sym (length-take-le _ _ (fits (goal.at.slice_bounds-check_built-end-2 c).After-build_twins-place))
 
 pub check_built-requires : goal.check_built-requires
 check_built-requires c =
     let e = c.build_twins-place.ensures in
     let past = c.if-place-vert.false in
-    twinned _ _ (shape (goal.at.check_built-requires c).After-above_limit) (limit (goal.at.check_built-requires c).After-above_limit) e.first past (in_front_lem (start (goal.at.check_built-requires c).After-above_limit).args.vert.now (start (goal.at.check_built-requires c).After-above_limit).args.twins.now (e.twins past))
+    twinned _ _ (shape (goal.at.check_built-requires c).Else-above_limit) (limit (goal.at.check_built-requires c).Else-above_limit) e.first past (in_front_lem (start (goal.at.check_built-requires c).Else-above_limit).args.vert.now (start (goal.at.check_built-requires c).Else-above_limit).args.twins.now (e.twins past))
 
 pub returns : goal.returns
 returns c =
     let e = c.build_twins-place.ensures in
     let past = c.if-place-vert.false in
-    record { result_value = c.check_built.ensures ∙ checks_left _ _ (shape (goal.at.returns c).After-above_limit) (limit (goal.at.returns c).After-above_limit) e.first past; twins_after = λ _. e.twins past }
+    record { result_value = c.check_built.ensures ∙ checks_left _ _ (shape (goal.at.returns c).Else-above_limit) (limit (goal.at.returns c).Else-above_limit) e.first past; twins_after = λ _. e.twins past }

@@ -32,8 +32,8 @@ copy-requires c = points_fit _ _ _ _ _ _ _ _ (done (goal.at.copy-requires c).Els
 
 pub refine_points-requires : goal.refine_points-requires
 refine_points-requires c =
-    readied _ _ _ _ _ _ _ _ (done (goal.at.refine_points-requires c).After-slice_known-4-1) c.counts_of-of.ensures c.fill.ensures c.copy.ensures
+    readied _ _ _ _ _ _ _ _ (done (goal.at.refine_points-requires c).Else-number-ne0) c.counts_of-of.ensures c.fill.ensures c.copy.ensures
 
 pub returns : goal.returns
 returns c =
-    outcome _ _ _ _ _ _ _ _ (done (goal.at.returns c).After-slice_known-4-1) c.counts_of-of.ensures c.fill.ensures c.copy.ensures c.count.ensures c.refine_points.ensures c.write_creases.ensures
+    outcome _ _ _ _ _ _ _ _ (done (goal.at.returns c).Else-number-ne0) c.counts_of-of.ensures c.fill.ensures c.copy.ensures c.count.ensures c.refine_points.ensures c.write_creases.ensures

@@ -7,7 +7,7 @@ use Rattle.tables.proofs.Corners.{kept_more}
 use Rattle.tables.proofs.fans.keep_corners.Goals as goal
 use Rattle.tables.proofs.fans.keep_corners.Goals.{After-wide-vertex}
 
-inside : (c : After-wide-vertex) → c.wide-vertex.result < length c.loop-halfedge.auto
+inside : (c : After-wide-vertex) → c.wide-vertex.result < length c.loop-halfedge.kept
 inside c =
     let i = c.loop-halfedge in
     omega (arith, c.wide-vertex.ensures, i.invariant.0, c.requires.1 i.halfedge (omega arith))

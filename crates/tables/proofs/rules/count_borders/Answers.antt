@@ -1,6 +1,5 @@
 -- `count_borders` counts the halfedges that have no twin.
 use mathlib.Core.Path.{◌≡◌}
-use mathlib.Core.Logic.{⊎_elim}
 use native.Mathlib.Numerals.{add-one}
 use native.Mathlib.Omega.{arith}
 use lib.ListN.{length}
@@ -8,6 +7,7 @@ use borrow.Author.Tests.{eq-eqb, ne_eqb}
 use Rattle.laws.proofs.Counts.{count_at_most}
 use Rattle.halfedges.specs.Cage.{border, B}
 use Rattle.tables.proofs.rules.count_borders.Goals as goal
+use Rattle.tables.proofs.rules.count_borders.Goals.{then-twin-halfedge, else-twin-halfedge}
 
 pub overflow_add-borders : goal.overflow_add-borders
 overflow_add-borders c = let i = c.loop-halfedge in omega (arith, i.invariant.0, count_at_most i.halfedge (border c.args.twin.now))
@@ -15,7 +15,10 @@ overflow_add-borders c = let i = c.loop-halfedge in omega (arith, i.invariant.0,
 pub loop-halfedge-preserved : goal.loop-halfedge-preserved
 loop-halfedge-preserved c =
     let i = c.loop-halfedge in (
-      ⊎_elim (λ w. rw (add-one, eq-eqb _ _ w.0.taken) (omega (arith, w.1, i.invariant.0))) (λ w. rw (add-one, ne_eqb _ _ w.0.left) (omega (arith, w.1, i.invariant.0))) c.if-twin-halfedge.branch,
+      elim c.if-twin-halfedge.branch [
+        then-twin-halfedge w ↦ rw (add-one, eq-eqb _ _ w.if-twin-halfedge.true) (omega (arith, w.borders-is, i.invariant.0))
+        | else-twin-halfedge w ↦ rw (add-one, ne_eqb _ _ w.if-twin-halfedge.false) (omega (arith, w.borders-is, i.invariant.0))
+      ],
       omega arith,
     )
 

@@ -29,10 +29,10 @@ mark-requires c = (followed (goal.at.mark-requires c).In-loop-vertex, omega (ari
 
 pub join_corners-place-requires : goal.join_corners-place-requires
 join_corners-place-requires c =
-    record { ended = ((start (goal.at.join_corners-place-requires c).At-loop-vertex).requires.ended.0, followed (goal.at.join_corners-place-requires c).At-loop-vertex, c.mark.ensures); bound_in_bounds = (omega (arith, c.mark.auto.marks, (start (goal.at.join_corners-place-requires c).At-loop-vertex).requires.bound_in_bounds.0, c.loop-vertex.invariant.0), omega (arith, (start (goal.at.join_corners-place-requires c).At-loop-vertex).requires.bound_in_bounds.1, c.loop-vertex.invariant.1)) }
+    record { ended = ((start (goal.at.join_corners-place-requires c).In-loop-vertex).requires.ended.0, followed (goal.at.join_corners-place-requires c).In-loop-vertex, c.mark.ensures); bound_in_bounds = (omega (arith, c.mark.auto.marks, (start (goal.at.join_corners-place-requires c).In-loop-vertex).requires.bound_in_bounds.0, c.loop-vertex.invariant.0), omega (arith, (start (goal.at.join_corners-place-requires c).In-loop-vertex).requires.bound_in_bounds.1, c.loop-vertex.invariant.1)) }
 
 pub overflow_add-vertex : goal.overflow_add-vertex
-overflow_add-vertex c = omega (arith, c.loop-vertex-test.true, (start (goal.at.overflow_add-vertex c).At-loop-vertex).requires.ended.1.buckets)
+overflow_add-vertex c = omega (arith, c.loop-vertex-test.true, (start (goal.at.overflow_add-vertex c).In-loop-vertex).requires.ended.1.buckets)
 
 pub loop-vertex-smaller : goal.loop-vertex-smaller
 loop-vertex-smaller c = omega (arith, c.loop-vertex-test.true)
@@ -43,7 +43,7 @@ loop-vertex-preserved c =
       c.mark.auto.marks ∙ v.0,
       c.join_corners-place.auto.twin ∙ v.1,
       omega (arith, c.loop-vertex-test.true),
-      built_on (start (goal.at.loop-vertex-preserved c).At-loop-vertex).requires.ended.0 _ _ c.join_corners-place.ensures v.3,
+      built_on (start (goal.at.loop-vertex-preserved c).In-loop-vertex).requires.ended.0 _ _ c.join_corners-place.ensures v.3,
     )
 
 pub shape_of-marks : goal.shape_of-marks
