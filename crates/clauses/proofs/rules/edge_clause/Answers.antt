@@ -8,7 +8,7 @@ use Rattle.halfedges.specs.Cage.{cell, E}
 use Rattle.tables.proofs.EdgeCount.{edges_at_most}
 use Rattle.clauses.proofs.Broken.{edge_past_lem, edge_differs_lem, Alike, alone, paired, stranger_below, edge_shared_lem}
 use Rattle.clauses.proofs.rules.edge_clause.Goals as goal
-use Rattle.clauses.proofs.rules.edge_clause.Goals.{else-t, then-t, After-wide-other, Else-edges-wide, Joined-t, Start}
+use Rattle.clauses.proofs.rules.edge_clause.Goals.{else-t, then-t+else-twins-number, After-wide-other, Else-edges-wide, Joined-t, Start}
 
 -- where the edge is in range
 module _ (i : Else-edges-wide) where
