@@ -26,7 +26,7 @@ refine_level-requires c =
 
 pub next-level-requires : goal.next-level-requires
 next-level-requires c =
-    climb_fits (start (goal.at.next-level-requires c).After-struct_known-1).args.weight _ _ _ _ _ (start (goal.at.next-level-requires c).After-struct_known-1).requires.ready c.loop-level.invariant.2 (omega arith) (omega (arith, (start (goal.at.next-level-requires c).After-struct_known-1).well_formed.1.1.1.1.0)) (omega (arith, (start (goal.at.next-level-requires c).After-struct_known-1).well_formed.1.1.1.1.1.1.1))
+    climb_fits (start (goal.at.next-level-requires c).After-struct_known-1).args.weight _ _ _ _ _ (start (goal.at.next-level-requires c).After-struct_known-1).requires.ready c.loop-level.invariant.2 (omega arith) (omega (arith, (start (goal.at.next-level-requires c).After-struct_known-1).well-formed.1.1.1.1.0)) (omega (arith, (start (goal.at.next-level-requires c).After-struct_known-1).well-formed.1.1.1.1.1.1.1))
 
 pub loop-level-smaller : goal.loop-level-smaller
 loop-level-smaller c = omega (arith, left_next c)
