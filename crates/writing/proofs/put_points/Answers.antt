@@ -1,7 +1,6 @@
 -- `put_points` keeps the coordinates put so far in front of what the part held past them.
 use mir.Syntax.{w32}
 use mir.Facts.{to_z-of_z}
-use borrow.Author.Rules.{rules}
 use Prim.Native.Nat.{◌*◌, ◌-◌}
 use mathlib.Core.Path.{◌≡◌, refl, ap, ◌∙◌}
 use native.Mathlib.Omega.{arith}
@@ -14,10 +13,6 @@ use Rattle.laws.proofs.Filling.{chunk_next}
 use Rattle.cagefile.specs.Numbers.{u32, twos}
 use Rattle.writing.proofs.put_points.Invariants.{put}
 use Rattle.writing.proofs.put_points.Goals as goal
-
-shared_slice_copy_out_put_coordinate :
-    goal.bounds-points-index invariant_loop decreases_loop
-shared_slice_copy_out_put_coordinate c = search rules
 
 pub loop-index-preserved : goal.loop-index-preserved
 loop-index-preserved c =
