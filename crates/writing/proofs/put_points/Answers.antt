@@ -1,8 +1,10 @@
 -- `put_points` keeps the coordinates put so far in front of what the part held past them.
 use mir.Syntax.{w32}
 use mir.Facts.{to_z-of_z}
+use borrow.Author.Rules.{rules}
 use Prim.Native.Nat.{◌*◌, ◌-◌}
 use mathlib.Core.Path.{◌≡◌, refl, ap, ◌∙◌}
+use mathlib.Core.List.{flat_map}
 use native.Mathlib.Omega.{arith}
 use lib.IntN.{pos}
 use lib.ListN.{length, get_or}
@@ -13,6 +15,10 @@ use Rattle.laws.proofs.Filling.{chunk_next}
 use Rattle.cagefile.specs.Numbers.{u32, twos}
 use Rattle.writing.proofs.put_points.Invariants.{put}
 use Rattle.writing.proofs.put_points.Goals as goal
+
+pub loop-index-init : goal.loop-index-init
+unfolding flat_map
+loop-index-init c = search rules
 
 pub loop-index-preserved : goal.loop-index-preserved
 loop-index-preserved c =
