@@ -2,11 +2,12 @@
 ghost use Rattle.io.specs.Counts.{IsPrefixLen};
 
 use crate::replies;
-use std::fs::OpenOptions;
-use std::io::{Print, Read, Write};
+use std::fs::{File, OpenOptions};
+use std::io::{ErrorKind, Print, Read, Write};
+use std::{fs, io};
 
-// A program hands its status over as one digit, written to descriptor 3, from which the command that started it takes it. By this path
-// the descriptor's file is opened once more.
+// A program writes its status as one digit to descriptor 3, from which the command that started it takes it. Only this path leads to a
+// descriptor that is none of the three standard ones: opening it opens what the descriptor has open once more.
 const STATUS_PATH: &str = "/dev/fd/3";
 
 // How many bytes stand at the buffer's front, and whether a read failed.
@@ -98,10 +99,19 @@ fn fail(rt: &HostRuntime, message: &[u8]) {
     tell(rt, message, replies::FAILED);
 }
 
-// Hands the status over to the command. The digit goes after what the descriptor's file holds, which is neither made nor emptied; where
-// it cannot be opened or written, nothing is handed over.
+// Hands the status over to the command; where descriptor 3 is closed or cannot be written, to nobody.
 pub fn end(rt: &HostRuntime, status: usize) {
-    if let Ok(mut file) = OpenOptions::new().append(true).open(rt, STATUS_PATH) {
+    if let Ok(mut file) = open_status(rt) {
         let _ = write!(file, "{status}");
     }
+}
+
+// Opens what descriptor 3 has open, where that is open for writing, as the permissions of the descriptor's own link say. A file is
+// neither made nor emptied, and what is written goes to its end.
+fn open_status(rt: &HostRuntime) -> io::Result<File> {
+    let link = fs::symlink_metadata(rt, STATUS_PATH)?;
+    if link.permissions().readonly() {
+        return Err(io::Error::from(ErrorKind::PermissionDenied));
+    }
+    OpenOptions::new().append(true).open(rt, STATUS_PATH)
 }
