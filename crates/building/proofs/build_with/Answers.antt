@@ -18,7 +18,7 @@ module _ (i : Else-number-ne0) where
   plan = (goal.at.Else-number-ne0 i).After-plan-answer
 
   abbrev start : Start
-  start = plan.before.before.before.before.before.before.before.before
+  start = (goal.at.After-plan-answer plan).Start
 
   done : build_verdict start.args.vert.now start.args.points.now start.args.twin.now start.args.edge.now ≡ DONE
   done = told_done _ _ _ _ plan.plan-answer.result plan.plan-answer.ensures.result_value i.number.ensures i.if-number-ne0.false

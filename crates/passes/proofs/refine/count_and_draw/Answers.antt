@@ -14,7 +14,7 @@ use Rattle.passes.proofs.refine.count_and_draw.Goals.{After-count_creases, Start
 -- the tally, once the creases are counted
 module _ (k : After-count_creases) where
   abbrev s : Start
-  s = k.before.before.before.before.before.before.before.before.before
+  s = (goal.at.After-count_creases k).Start
 
   enough : s.args.cage.vertices ≤ length k.count_creases.new.counts
   enough = let small = s.requires.0.few in search rules
