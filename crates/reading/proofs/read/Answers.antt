@@ -39,7 +39,7 @@ module _ (c : Else-number-ne0) where
 
 -- where the tables were copied, once the points are about to be
 abbrev copied : After-copy_rest-arg-2-1 → After-copy_tables
-copied c = c.before.before.before.before.before.before.before.before
+copied c = (goal.at.After-copy_rest-arg-2-1 c).After-copy_tables
 
 pub returns-then-number-ne0 : goal.returns-then-number-ne0
 returns-then-number-ne0 c =

@@ -1,4 +1,5 @@
 -- `put_numbers` keeps the numbers put so far in front of what the part held past them.
+use Prim.Native.Nat.{◌-◌}
 use mathlib.Core.Path.{◌≡◌, refl, ◌∙◌}
 use native.Mathlib.Omega.{arith}
 use lib.ListN.{length}

@@ -51,7 +51,7 @@ module _ (j : Joined-t) where
   alike : Alike begun.args.twin.now begun.args.edge.now begun.args.halfedge
   alike =
       elim j.if-t.branch [
-        | then-t w ↦ paired w.if-t.true (sym (ap (cell begun.args.edge.now) w.wide-other.ensures) ∙ w.if-twins-number.false)
+        | then-t+else-twins-number w ↦ paired w.if-t.true (sym (ap (cell begun.args.edge.now) w.wide-other.ensures) ∙ w.if-twins-number.false)
         | else-t w ↦ alone w.if-t.false
       ]
 
