@@ -13,7 +13,7 @@ use Rattle.splitting.specs.NextLevel.{rows, new_twin, new_edge, new_vert, next_t
 use Rattle.splitting.specs.Internal.InPlace.{Sound}
 use Rattle.climbing.specs.declared.rows.Cells.{Cells}
 use Rattle.climbing.specs.Halfedge.{cells_of}
-use Rattle.climbing.specs.Internal.Climbing.{ancestor, outer, inner, inside, child}
+use Rattle.climbing.specs.Internal.Climbing.{rows_of, ancestor, outer, inner, inside, child}
 
 -- one of four by three tests, as the rows choose
 abbrev choose : {A : Type 0} → Bool → Bool → Bool → A → A → A → A → A
@@ -32,8 +32,8 @@ choose_same true false false x = refl
 choose_same false c d x = refl
 
 -- a row looks at one halfedge of the level before, whatever it makes of that
-by_ancestor : {A : Type 0} (n : ℕ) (f₀ f₁ f₂ f₃ : ℕ → ℕ → A) (k : ℕ) → rows n (λ h. f₀ h h) (λ h. f₁ h h) (λ h. f₂ h (PREV h)) (λ h. f₃ h (PREV h)) k ≡ rows n (λ h. f₀ h (ancestor n k)) (λ h. f₁ h (ancestor n k)) (λ h. f₂ h (ancestor n k)) (λ h. f₃ h (ancestor n k)) k
-unfolding rows ancestor
+by_ancestor : {A : Type 0} (n : ℕ) (f₀ f₁ f₂ f₃ : ℕ → ℕ → A) (k : ℕ) → rows_of n (λ h. f₀ h h) (λ h. f₁ h h) (λ h. f₂ h (PREV h)) (λ h. f₃ h (PREV h)) k ≡ rows_of n (λ h. f₀ h (ancestor n k)) (λ h. f₁ h (ancestor n k)) (λ h. f₂ h (ancestor n k)) (λ h. f₃ h (ancestor n k)) k
+unfolding rows rows_of ancestor
 by_ancestor n f₀ f₁ f₂ f₃ k =
     choose_by
     (f₀ (k / 3)) (f₁ (k / 3)) (f₂ (k / 3)) (f₃ (k - 3 * n))
@@ -41,14 +41,14 @@ by_ancestor n f₀ f₁ f₂ f₃ k =
     (k / 3) (k / 3) (PREV (k / 3)) (PREV (k - 3 * n))
 
 -- a part of what stands in the rows, row by row
-part_of_rows : {A : Type 0} (part : A → ℕ) (n : ℕ) (r₀ r₁ r₂ r₃ : ℕ → A) (k : ℕ) → rows n (λ h. part (r₀ h)) (λ h. part (r₁ h)) (λ h. part (r₂ h)) (λ h. part (r₃ h)) k ≡ part (rows n r₀ r₁ r₂ r₃ k)
-unfolding rows
+part_of_rows : {A : Type 0} (part : A → ℕ) (n : ℕ) (r₀ r₁ r₂ r₃ : ℕ → A) (k : ℕ) → rows n (λ h. part (r₀ h)) (λ h. part (r₁ h)) (λ h. part (r₂ h)) (λ h. part (r₃ h)) k ≡ part (rows_of n r₀ r₁ r₂ r₃ k)
+unfolding rows rows_of
 part_of_rows part n r₀ r₁ r₂ r₃ k =
     choose_by
     part part part part
     (ltb k (3 * n)) (eqb (k % 3) 0) (eqb (k % 3) 1)
     (r₀ (k / 3)) (r₁ (k / 3)) (r₂ (k / 3)) (r₃ (k - 3 * n))
-    ∙ choose_same (ltb k (3 * n)) (eqb (k % 3) 0) (eqb (k % 3) 1) (part (rows n r₀ r₁ r₂ r₃ k))
+    ∙ choose_same (ltb k (3 * n)) (eqb (k % 3) 0) (eqb (k % 3) 1) (part (rows_of n r₀ r₁ r₂ r₃ k))
 
 module _ (t : HalfedgeTable) (c : Tables) (s : Sound t c) (k : ℕ) (l : k < 4 * t.halfedges) where
   -- the rows of the three tables together
@@ -65,7 +65,7 @@ module _ (t : HalfedgeTable) (c : Tables) (s : Sound t c) (k : ℕ) (l : k < 4 *
   middle h a = inside t (cells_of c a) (3 * h + 1) h
 
   abbrev new : Cells
-  new = rows t.halfedges (λ h. out h h) (λ h. across h h) (λ h. home h (PREV h)) (λ h. middle h (PREV h)) k
+  new = rows_of t.halfedges (λ h. out h h) (λ h. across h h) (λ h. home h (PREV h)) (λ h. middle h (PREV h)) k
 
   twin_is : cell (next_twins c.twin) k ≡ new.twin
   unfolding next_twins new_twin

@@ -1,3 +1,4 @@
+pub mod RowsOf
 pub mod ByAncestor
 pub mod Made
 pub mod Ancestors

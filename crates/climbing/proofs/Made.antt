@@ -10,6 +10,7 @@ use Rattle.halfedges.specs.Cage.{PREV}
 use Rattle.halfedges.proofs.Triangle.{prev_below}
 use Rattle.tables.specs.Internal.Above.{is_above}
 use Rattle.splitting.proofs.Rows.{corner_row, across_row, back_row, middle_row, every_row}
+use Rattle.climbing.proofs.RowsOf.{corner_row_of, across_row_of, back_row_of, middle_row_of}
 use Rattle.climbing.specs.declared.rows.Cells.{Cells}
 use Rattle.climbing.specs.Internal.Climbing.{ancestor, outer, inner, inside, child}
 
@@ -38,19 +39,19 @@ module _ (n k : ℕ) where
 module _ (t : HalfedgeTable) (k a : ℕ) (x : Cells) {y : Cells} where
   pub made_middle : 3 * t.halfedges ≤ k → y ≡ inside t x (3 * (k - 3 * t.halfedges) + 1) (k - 3 * t.halfedges) → y ≡ child t k a x
   unfolding child
-  made_middle m f = f ∙ sym (middle_row t.halfedges _ _ _ _ k m)
+  made_middle m f = f ∙ sym (middle_row_of t.halfedges _ _ _ _ k m)
 
   module _ (l : k < 3 * t.halfedges) where
     pub made_across : k % 3 ≡ 1 → y ≡ inside t x (3 * t.halfedges + k / 3) (k / 3) → y ≡ child t k a x
     unfolding child
-    made_across o f = f ∙ sym (across_row t.halfedges _ _ _ _ k l o)
+    made_across o f = f ∙ sym (across_row_of t.halfedges _ _ _ _ k l o)
 
     -- up, as the code has it: whether the ancestor is above its twin
     module _ {up : Bool} (e : up ≡ is_above x.twin a) where
       pub made_outer : k % 3 ≡ 0 → y ≡ outer x up → y ≡ child t k a x
       unfolding child
-      made_outer z f = f ∙ ap (outer x) e ∙ sym (corner_row t.halfedges _ _ _ _ k l z)
+      made_outer z f = f ∙ ap (outer x) e ∙ sym (corner_row_of t.halfedges _ _ _ _ k l z)
 
       pub made_inner : k % 3 ≢ 0 → k % 3 ≢ 1 → y ≡ inner x up t.vertices → y ≡ child t k a x
       unfolding child
-      made_inner z o f = f ∙ ap (λ b. inner x b t.vertices) e ∙ sym (back_row t.halfedges _ _ _ _ k l z o)
+      made_inner z o f = f ∙ ap (λ b. inner x b t.vertices) e ∙ sym (back_row_of t.halfedges _ _ _ _ k l z o)

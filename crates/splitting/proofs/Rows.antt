@@ -7,7 +7,7 @@ use native.Mathlib.Omega.{arith}
 use borrow.Author.Tests.{eq-eqb, ne_eqb, lt-ltb, le-ltb}
 use Rattle.splitting.specs.NextLevel.{rows}
 
-module _ {A : Type 0} (n : ℕ) (r₀ r₁ r₂ r₃ : ℕ → A) where
+module _ (n : ℕ) (r₀ r₁ r₂ r₃ : ℕ → ℕ) where
   pub corner_row : (k : ℕ) → k < 3 * n → k % 3 ≡ 0 → rows n r₀ r₁ r₂ r₃ k ≡ r₀ (k / 3)
   unfolding rows
   corner_row k l e = simp (lt-ltb _ _ l, eq-eqb _ _ e)
@@ -40,7 +40,7 @@ module _ {A : Type 0} (n : ℕ) (r₀ r₁ r₂ r₃ : ℕ → A) where
     at_middle = middle_row (3 * n + h) (omega arith) ∙ ap r₃ (let e : 3 * n + h - 3 * n ≡ h = omega arith in e)
 
   -- what holds of every row's cells holds of every new cell
-  pub every_row : (P : A → Type 0) → ((h : ℕ) → h < n → P (r₀ h)) → ((h : ℕ) → h < n → P (r₁ h)) → ((h : ℕ) → h < n → P (r₂ h)) → ((h : ℕ) → h < n → P (r₃ h)) → (k : ℕ) → k < 4 * n → P (rows n r₀ r₁ r₂ r₃ k)
+  pub every_row : (P : ℕ → Type 0) → ((h : ℕ) → h < n → P (r₀ h)) → ((h : ℕ) → h < n → P (r₁ h)) → ((h : ℕ) → h < n → P (r₂ h)) → ((h : ℕ) → h < n → P (r₃ h)) → (k : ℕ) → k < 4 * n → P (rows n r₀ r₁ r₂ r₃ k)
   every_row P p₀ p₁ p₂ p₃ k l = by (dec_lt k (3 * n))
     where
       in_triangle : k < 3 * n → Dec (k % 3 ≡ 0) → Dec (k % 3 ≡ 1) → P (rows n r₀ r₁ r₂ r₃ k)

@@ -7,7 +7,7 @@ use Rattle.halfedges.specs.Counts.{counts_at}
 use Rattle.tables.specs.Tables.{Tables}
 
 -- the new halfedge k by the row that it stands in: 3h, 3h+1, 3h+2 or 3H+h
-unfoldable pub rows : {A : Type 0} → ℕ → (ℕ → A) → (ℕ → A) → (ℕ → A) → (ℕ → A) → ℕ → A
+unfoldable pub rows : ℕ → (ℕ → ℕ) → (ℕ → ℕ) → (ℕ → ℕ) → (ℕ → ℕ) → ℕ → ℕ
 rows H r₀ r₁ r₂ r₃ k =
     cond (ltb k (3 * H))
     (cond (eqb (k % 3) 0) (r₀ (k / 3)) (cond (eqb (k % 3) 1) (r₁ (k / 3)) (r₂ (k / 3))))

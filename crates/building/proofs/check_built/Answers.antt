@@ -14,7 +14,7 @@ use Rattle.building.proofs.check_built.Goals.{Else-number-ne0, Else-number-ne0-2
 
 -- what 4 and 5 leave where they are passed
 abbrev start : Else-number-ne0 → Start
-start i = i.before.before.before.before.before
+start i = (goal.at.Else-number-ne0 i).Start
 
 places : (i : Else-number-ne0) → Placed (start i).args.twin.now (start i).args.vert.now (vertices (start i).args.points.now)
 places i = placed _ _ _ (passed_clean _ _ VERTEX (λ k. omega arith) (number_zero i.check_vertices-places.ensures i.number.ensures i.if-number-ne0.false))

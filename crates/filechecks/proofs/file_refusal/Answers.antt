@@ -116,7 +116,7 @@ returns-then-number-ne0-3 c =
     tables_stop _ _ (tables-told (goal.at.returns-then-number-ne0-3 c).After-tables_refusal-tables) (λ z. c.if-number-ne0-3.true (c.number-3.ensures ∙ z)) ∙ sym (counts_passed (counted (goal.at.returns-then-number-ne0-3 c).After-vertices_in-vertices))
 
 pub form_in-requires : goal.form_in-requires
-form_in-requires c = whole (counted (read c).before).before.before.before
+form_in-requires c = whole (goal.at.Else-number-ne0-2 (counted (goal.at.After-tables_refusal-tables (read c)).After-vertices_in-vertices)).Else-number-ne0
 
 pub creased_refusal-requires : goal.creased_refusal-requires
 creased_refusal-requires c = are_whole (goal.at.creased_refusal-requires c).Else-number-ne0-3
@@ -127,9 +127,9 @@ returns-then-form_in-eq2 c =
     let g = f (start₃ t) in
     let left : ℕ → ℕ → Verdict = λ h v. first (twins_asked g 0 ++ front_to_back g (18 + 6 * h) (nothing ∷ nothing ∷ weight_asked g ∷ []) (later_heads Two (E (twins_in g)) v)) in
     c.creased_refusal.ensures
-    ∙ ap₂ left (H t.before) t.vertices_in-vertices.ensures.0
+    ∙ ap₂ left (H (goal.at.After-tables_refusal-tables t).After-vertices_in-vertices) t.vertices_in-vertices.ensures.0
     ∙ sym (creased_left_lem g _ (tables-told t) (passed (goal.at.returns-then-form_in-eq2 c).Else-number-ne0-3) (form_is g Two (sym c.form_in.ensures ∙ c.if-form_in-eq2.true)))
-    ∙ sym (counts_passed (counted t.before))
+    ∙ sym (counts_passed (counted (goal.at.After-tables_refusal-tables t).After-vertices_in-vertices))
 
 pub plain_refusal-requires : goal.plain_refusal-requires
 plain_refusal-requires c = let w = are_whole (goal.at.plain_refusal-requires c).Else-number-ne0-3 in (w.few_halfedges, w.few_vertices)
@@ -139,6 +139,6 @@ returns c =
     let t = read (goal.at.returns c).Else-number-ne0-3 in
     let g = f (start₃ t) in
     c.plain_refusal.ensures
-    ∙ ap₂ (λ h v. first (fields_checks g (18 + 6 * h) (later_heads One 0 v))) (H t.before) t.vertices_in-vertices.ensures.0
+    ∙ ap₂ (λ h v. first (fields_checks g (18 + 6 * h) (later_heads One 0 v))) (H (goal.at.After-tables_refusal-tables t).After-vertices_in-vertices) t.vertices_in-vertices.ensures.0
     ∙ sym (plain_left_lem g _ (tables-told t) (passed (goal.at.returns c).Else-number-ne0-3) (form_other g (λ e. c.if-form_in-eq2.false (c.form_in.ensures ∙ e))))
-    ∙ sym (counts_passed (counted t.before))
+    ∙ sym (counts_passed (counted (goal.at.After-tables_refusal-tables t).After-vertices_in-vertices))

@@ -42,13 +42,13 @@ module _ (n : After-after_tables-creases_at) where
 
 -- where the first head is expected, from where each field has passed
 abbrev at₁ : Else-number-ne0 → After-after_tables-creases_at
-at₁ c = c.before.before.before
+at₁ c = (goal.at.Else-number-ne0 c).After-after_tables-creases_at
 
 abbrev at₂ : Else-number-ne0-2 → After-after_tables-creases_at
-at₂ c = at₁ c.before.before.before
+at₂ c = at₁ (goal.at.Else-number-ne0-2 c).Else-number-ne0
 
 abbrev at₃ : Else-number-ne0-3 → After-after_tables-creases_at
-at₃ c = at₂ c.before.before.before
+at₃ c = at₂ (goal.at.Else-number-ne0-3 c).Else-number-ne0-2
 
 creases_passed : (c : Else-number-ne0) → from (at₁ c) 0 (creases_at_lem (at₁ c)) ≡ from (at₁ c) 1 (points_at_lem (at₁ c))
 unfolding later_heads front_to_back

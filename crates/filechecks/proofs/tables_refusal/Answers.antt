@@ -24,10 +24,10 @@ module _ (s : Start) where
 
 -- the function's entry, from where each field has passed
 abbrev start₁ : Else-number-ne0 → Start
-start₁ c = c.before.before.before.before
+start₁ c = (goal.at.Else-number-ne0 c).Start
 
 abbrev start₂ : Else-number-ne0-2 → Start
-start₂ c = start₁ c.before.before.before
+start₂ c = start₁ (goal.at.Else-number-ne0-2 c).Else-number-ne0
 
 twin_passed : (c : Else-number-ne0) → from (start₁ c) 0 9 ≡ from (start₁ c) 1 (vert_at (start₁ c))
 unfolding table_heads front_checks

@@ -57,7 +57,7 @@ returns-in-Two c =
 pub returns-then-not-is_numbered : goal.returns-then-not-is_numbered
 returns-then-not-is_numbered c =
     let s = start (goal.at.returns-then-not-is_numbered c).After-is_numbered in
-    let old : not_old One (cage s) ≡ false = sym c.is_numbered.ensures ∙ not-true _ c.if-not-is_numbered.true in
+    let old : not_old One (cage s) ≡ false = sym c.is_numbered.ensures ∙ c.if-not-is_numbered.true in
     rw (one (goal.at.returns-then-not-is_numbered c).After-is_numbered, ← old_written (cage s) (lent s) (old_plain One (cage s) s.requires old)) c.write.ensures
 
 pub returns-then-number-ne0 : goal.returns-then-number-ne0
@@ -72,5 +72,5 @@ returns c =
     let t = tested (goal.at.returns c).After-number in
     let s = start t in
     let form = s.args.form in
-    let old : not_old form (w (goal.at.returns c).After-number) ≡ true = ap (λ k. not_old k (w (goal.at.returns c).After-number)) (one t) ∙ sym t.is_numbered.ensures ∙ not-false _ c.if-not-is_numbered.false in
+    let old : not_old form (w (goal.at.returns c).After-number) ≡ true = ap (λ k. not_old k (w (goal.at.returns c).After-number)) (one t) ∙ sym t.is_numbered.ensures ∙ c.if-not-is_numbered.false in
     refused_left NotOld (moves_not_old form (w (goal.at.returns c).After-number) (lent s) _ (checks (goal.at.returns c).After-number) (sym c.number.ensures ∙ c.if-number-ne0.false) old) refl (file form (w (goal.at.returns c).After-number)) (lent s) (λ z. omega arith)

@@ -52,7 +52,7 @@ module _ (c : Then-not-has_creases) where
   counted₁ = (goal.at.Then-not-has_creases c).After-after_tables-at
 
   one : form_of (f counted₁) ≡ One
-  one = form_other _ (eqb-false _ _ (sym c.has_creases.ensures ∙ not-true _ c.if-not-has_creases.true))
+  one = form_other _ (eqb-false _ _ (sym c.has_creases.ensures ∙ c.if-not-has_creases.true))
 
 -- form 2
 module _ (c : Else-not-has_creases) where
@@ -60,7 +60,7 @@ module _ (c : Else-not-has_creases) where
   counted₂ = (goal.at.Else-not-has_creases c).After-after_tables-at
 
   two : form_of (f counted₂) ≡ Two
-  two = form_is _ Two (eqb-true _ _ (sym c.has_creases.ensures ∙ not-false _ c.if-not-has_creases.false))
+  two = form_is _ Two (eqb-true _ _ (sym c.has_creases.ensures ∙ c.if-not-has_creases.false))
 
 module _ (e : After-edges_in-edges) where
   abbrev n : After-after_tables-at

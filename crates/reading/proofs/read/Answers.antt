@@ -25,7 +25,7 @@ module _ (s : Start) where
 -- where the verdict is done
 module _ (c : Else-number-ne0) where
   abbrev start : Start
-  start = c.before.before.before.before.before.before.before.before.before.before.before.before.before
+  start = (goal.at.Else-number-ne0 c).Start
 
   done : read_verdict (f start) (lent start) start.args.points.now start.args.creases.now ≡ DONE
   unfolding read_verdict
@@ -39,7 +39,7 @@ module _ (c : Else-number-ne0) where
 
 -- where the tables were copied, once the points are about to be
 abbrev copied : After-copy_rest-arg-2-1 → After-copy_tables
-copied c = c.before.before.before.before.before.before.before.before
+copied c = (goal.at.After-copy_rest-arg-2-1 c).After-copy_tables
 
 pub returns-then-number-ne0 : goal.returns-then-number-ne0
 returns-then-number-ne0 c =
@@ -51,16 +51,16 @@ copy_tables-requires c =
 
 pub copy_rest-weight-requires : goal.copy_rest-weight-requires
 copy_rest-weight-requires c =
-    let d = (copied c).before.before.before.before in
+    let d = (goal.at.After-copy_tables (copied c)).Else-number-ne0 in
     (sound d, (room d).coordinates, (room d).creases)
 
 pub of-requires : goal.of-requires
-of-requires c = sound (copied (goal.at.of-requires c).After-copy_rest-arg-2-1).before.before.before.before
+of-requires c = sound (goal.at.After-copy_tables (copied (goal.at.of-requires c).After-copy_rest-arg-2-1)).Else-number-ne0
 
 pub returns : goal.returns
 returns c =
     let tables-there = copied (goal.at.returns c).After-copy_rest-arg-2-1 in
     let t = tables-there.copy_tables.ensures in
     let r = c.copy_rest-weight.ensures in
-    done_left _ _ _ _ (done tables-there.before.before.before.before) _ _ c.of.ensures r.0 _ _ _
+    done_left _ _ _ _ (done (goal.at.After-copy_tables tables-there).Else-number-ne0) _ _ c.of.ensures r.0 _ _ _
     (λ i. tables (t.0 i) (t.1 i) (t.2 i)) r.1 r.2

@@ -10,11 +10,11 @@ pub returns-in-Short : goal.returns-in-Short
 unfolding first
 returns-in-Short c =
     let a = c.args in
-    ap (λ w. first (valence_checks w a.twin.now a.vert.now a.vertices)) (sym c.enum_told-1.given.1)
+    ap (λ w. first (valence_checks w a.twin.now a.vert.now a.vertices)) (sym c.in-Short.is)
 
 pub returns-in-Paper : goal.returns-in-Paper
 returns-in-Paper c =
     let a = c.args in
     c.check_inside.ensures
     ∙ given_alone a.vertices (many_corners a.twin.now a.vert.now) VALENCE (λ k. omega arith)
-    ∙ ap (λ w. first (valence_checks w a.twin.now a.vert.now a.vertices)) (sym c.enum_told-in-Paper-1.given.1)
+    ∙ ap (λ w. first (valence_checks w a.twin.now a.vert.now a.vertices)) (sym c.in-Paper.is)

@@ -1,15 +1,11 @@
 -- `put_bytes` keeps the bytes put so far in front of what the part held past them.
-use Prim.Native.Nat.{ℕ}
+use Prim.Native.Nat.{◌-◌}
 use mathlib.Core.Path.{◌≡◌, refl}
-use mathlib.Core.List.{List}
 use native.Mathlib.Omega.{arith}
-use lib.ListN.{length, get_or}
+use lib.ListN.{length}
 use Rattle.laws.proofs.Tabulate.{tabulate-cells}
 use Rattle.creases.proofs.Filled.{filled-start, filled_on, filled_long}
 use Rattle.writing.proofs.put_bytes.Goals as goal
-
-abbrev byte : List ℕ → ℕ → ℕ
-byte bytes k = get_or bytes k 0
 
 pub loop-index-init : goal.loop-index-init
 loop-index-init c = (omega arith, filled-start _ _)

@@ -1,11 +1,18 @@
 -- `put_numbers` keeps the numbers put so far in front of what the part held past them.
+use borrow.Author.Rules.{rules}
+use Prim.Native.Nat.{◌-◌}
 use mathlib.Core.Path.{◌≡◌, refl, ◌∙◌}
+use mathlib.Core.List.{flat_map}
 use native.Mathlib.Omega.{arith}
 use lib.ListN.{length}
 use lib.Seq.{take-length}
 use Rattle.laws.proofs.Filling.{chunk_next}
 use Rattle.cagefile.specs.Numbers.{u16}
 use Rattle.writing.proofs.put_numbers.Goals as goal
+
+pub loop-halfedge-init : goal.loop-halfedge-init
+unfolding flat_map
+loop-halfedge-init c = search rules
 
 pub loop-halfedge-preserved : goal.loop-halfedge-preserved
 loop-halfedge-preserved c =

@@ -2,25 +2,23 @@
 use mir.Syntax.{w32}
 use mir.Facts.{to_z-of_z}
 use borrow.Author.Rules.{rules}
-use Prim.Native.Nat.{ℕ, ◌*◌}
+use Prim.Native.Nat.{◌*◌, ◌-◌}
 use mathlib.Core.Path.{◌≡◌, refl, ap, ◌∙◌}
-use mathlib.Core.List.{List}
+use mathlib.Core.List.{flat_map}
 use native.Mathlib.Omega.{arith}
-use lib.IntN.{ℤ, pos}
+use lib.IntN.{pos}
 use lib.ListN.{length, get_or}
 use lib.Seq.{take-length}
 use Rattle.laws.specs.Internal.Parts.{splice}
 use Rattle.laws.proofs.Chunks.{flat_map_map}
 use Rattle.laws.proofs.Filling.{chunk_next}
 use Rattle.cagefile.specs.Numbers.{u32, twos}
+use Rattle.writing.proofs.put_points.Invariants.{put}
 use Rattle.writing.proofs.put_points.Goals as goal
 
-abbrev put : ℤ → List ℕ
-put z = u32 (twos z)
-
-shared_slice_copy_out_put_coordinate :
-    goal.bounds-points-index invariant_loop decreases_loop
-shared_slice_copy_out_put_coordinate c = search rules
+pub loop-index-init : goal.loop-index-init
+unfolding flat_map
+loop-index-init c = search rules
 
 pub loop-index-preserved : goal.loop-index-preserved
 loop-index-preserved c =

@@ -44,19 +44,19 @@ weight_small Paper = omega arith
 
 -- the function's entry, from where each field is about to be written
 abbrev start₁ : After-write_tables-arg-1 → Start
-start₁ c = c.before.before.before.before.before.before
+start₁ c = (goal.at.After-write_tables-arg-1 c).Start
 
 abbrev start₂ : After-write_bytes-arg-1 → Start
-start₂ c = start₁ c.before.before.before.before
+start₂ c = start₁ (goal.at.After-write_bytes-arg-1 c).After-write_tables-arg-1
 
 abbrev start₃ : After-write_points-arg-1 → Start
-start₃ c = start₂ c.before.before.before.before
+start₃ c = start₂ (goal.at.After-write_points-arg-1 c).After-write_bytes-arg-1
 
 abbrev start₄ : After-byte-1 → Start
-start₄ c = start₃ c.before.before.before.before.before.before
+start₄ c = start₃ (goal.at.After-byte-1 c).After-write_points-arg-1
 
 abbrev start₅ : After-write_end-arg-1 → Start
-start₅ c = start₄ c.before.before.before.before
+start₅ c = start₄ (goal.at.After-write_end-arg-1 c).After-byte-1
 
 pub write_tables-creases_at-requires : goal.write_tables-creases_at-requires
 write_tables-creases_at-requires c = omega (arith, room (start₁ c), fits (start₁ c))

@@ -26,13 +26,13 @@ module _ (s : Start) where
 
 -- the function's entry, from where each field is about to be written
 abbrev start₁ : After-write_tables-arg-1 → Start
-start₁ c = c.before.before.before.before.before
+start₁ c = (goal.at.After-write_tables-arg-1 c).Start
 
 abbrev start₂ : After-write_points-arg-1 → Start
-start₂ c = start₁ c.before.before.before.before
+start₂ c = start₁ (goal.at.After-write_points-arg-1 c).After-write_tables-arg-1
 
 abbrev start₃ : After-write_end-arg-1 → Start
-start₃ c = start₂ c.before.before.before.before
+start₃ c = start₂ (goal.at.After-write_end-arg-1 c).After-write_points-arg-1
 
 pub write_tables-points_at-requires : goal.write_tables-points_at-requires
 write_tables-points_at-requires c = omega (arith, room (start₁ c), fits (start₁ c))

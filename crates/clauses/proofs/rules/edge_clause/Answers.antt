@@ -8,7 +8,7 @@ use Rattle.halfedges.specs.Cage.{cell, E}
 use Rattle.tables.proofs.EdgeCount.{edges_at_most}
 use Rattle.clauses.proofs.Broken.{edge_past_lem, edge_differs_lem, Alike, alone, paired, stranger_below, edge_shared_lem}
 use Rattle.clauses.proofs.rules.edge_clause.Goals as goal
-use Rattle.clauses.proofs.rules.edge_clause.Goals.{After-wide-other, Else-edges-wide, Joined-t, Start}
+use Rattle.clauses.proofs.rules.edge_clause.Goals.{else-t, then-t+else-twins-number, After-wide-other, Else-edges-wide, Joined-t, Start}
 
 -- where the edge is in range
 module _ (i : Else-edges-wide) where
@@ -50,10 +50,10 @@ module _ (j : Joined-t) where
 
   alike : Alike begun.args.twin.now begun.args.edge.now begun.args.halfedge
   alike =
-      ⊎_elim
-      (λ t. paired t.0.taken (sym (ap (cell begun.args.edge.now) t.1.ensures) ∙ t.3.left))
-      (λ e. alone e.left)
-      j.if-t.came
+      elim j.if-t.branch [
+        | then-t+else-twins-number w ↦ paired w.if-t.true (sym (ap (cell begun.args.edge.now) w.wide-other.ensures) ∙ w.if-twins-number.false)
+        | else-t w ↦ alone w.if-t.false
+      ]
 
 pub overflow_cast-result-2 : goal.overflow_cast-result-2
 overflow_cast-result-2 c =

@@ -39,7 +39,7 @@ module _ (i : Else-vertex-end) where
 twin_inside : (c : After-wide-other) → c.wide-other.result < length (begun (after_next (goal.at.After-wide-other c).Else-vertex-end)).args.vert.now
 twin_inside c =
     let s = begun (after_next (goal.at.After-wide-other c).Else-vertex-end) in
-    omega (arith, c.wide-other.ensures, s.requires.for_vertices.0.long, s.requires.for_vertices.0.paired.below _ s.requires.broken_at.below (end_has_twin _ _ _ _ (low (after_next (goal.at.After-wide-other c).Else-vertex-end).before) s.requires.broken_at.broken (apart (goal.at.After-wide-other c).Else-vertex-end)))
+    omega (arith, c.wide-other.ensures, s.requires.for_vertices.0.long, s.requires.for_vertices.0.paired.below _ s.requires.broken_at.below (end_has_twin _ _ _ _ (low (goal.at.After-next-next (after_next (goal.at.After-wide-other c).Else-vertex-end)).Else-vertices-wide) s.requires.broken_at.broken (apart (goal.at.After-wide-other c).Else-vertex-end)))
 
 pub returns-then-vertices-wide : goal.returns-then-vertices-wide
 returns-then-vertices-wide c = vertex_past_lem _ _ _ _ (rw c.wide.ensures at c.if-vertices-wide.true)
@@ -65,4 +65,4 @@ bounds-vert-other c = twin_inside (goal.at.bounds-vert-other c).After-wide-other
 pub returns : goal.returns
 returns c =
     let n = after_next (goal.at.returns c).Else-vertex-end in
-    rw (c.wide-other.ensures, n.next-next.ensures) (vertex_differ _ _ _ _ (low n.before) (begun n).requires.broken_at.broken (apart (goal.at.returns c).Else-vertex-end))
+    rw (c.wide-other.ensures, n.next-next.ensures) (vertex_differ _ _ _ _ (low (goal.at.After-next-next n).Else-vertices-wide) (begun n).requires.broken_at.broken (apart (goal.at.returns c).Else-vertex-end))

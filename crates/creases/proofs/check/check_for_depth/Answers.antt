@@ -76,7 +76,7 @@ returns-then-number-ne0-2 c =
 pub check_creases-numbers-requires : goal.check_creases-numbers-requires
 check_creases-numbers-requires c =
     let i = sized c in
-    for_creases _ _ _ i.count_edges.ensures i.if-creases-count_edges.false (for_rest i.before.before) (places_done c)
+    for_creases _ _ _ i.count_edges.ensures i.if-creases-count_edges.false (for_rest (goal.at.Else-creases-count_edges i).Else-number-ne0) (places_done c)
 
 pub returns-then-number-ne0-3 : goal.returns-then-number-ne0-3
 returns-then-number-ne0-3 c =
@@ -84,7 +84,7 @@ returns-then-number-ne0-3 c =
 
 pub check_fans-requires : goal.check_fans-requires
 check_fans-requires c =
-    for_fans _ _ (for_rest (sized (goal.at.check_fans-requires c).Else-number-ne0-2).before.before) (places_done (goal.at.check_fans-requires c).Else-number-ne0-2)
+    for_fans _ _ (for_rest (goal.at.Else-creases-count_edges (sized (goal.at.check_fans-requires c).Else-number-ne0-2)).Else-number-ne0) (places_done (goal.at.check_fans-requires c).Else-number-ne0-2)
 
 pub returns : goal.returns
 returns c =

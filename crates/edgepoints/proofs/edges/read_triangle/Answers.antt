@@ -6,7 +6,7 @@ use Rattle.halfedges.specs.Cage.{cell}
 use Rattle.halfedges.proofs.Triangle.{next_0, next_1, next_2, prev_0, prev_1, prev_2}
 use Rattle.edgepoints.proofs.Writes.{halfedge_is}
 use Rattle.edgepoints.proofs.edges.read_triangle.Goals as goal
-use Rattle.edgepoints.proofs.edges.read_triangle.Goals.{After-read_corner-a, After-read_corner-b, After-read_corner-c, Start}
+use Rattle.edgepoints.proofs.edges.read_triangle.Goals.{Start}
 
 module _ (s : Start) (h : ℕ) (le : h ≤ 3 * s.args.triangle + 2) where
   corner-asked : (h < length s.args.vert.now) × (3 * cell s.args.vert.now h + 2 < length s.args.points.now)
@@ -44,7 +44,7 @@ returns c =
     let b = c.read_corner-b.ensures in
     let d = c.read_corner-c.ensures in
     λ i. record {
-      (goal.at.returns c).After-read_corner-a = halfedge_is twin vert edge l (3 * t) (next_0 t) (prev_0 t) a b d c.read_halfedge-first.ensures i;
-      (goal.at.returns c).After-read_corner-b = halfedge_is twin vert edge l (3 * t + 1) (next_1 t) (prev_1 t) b d a c.read_halfedge-second.ensures i;
-      (goal.at.returns c).After-read_corner-c = halfedge_is twin vert edge l (3 * t + 2) (next_2 t) (prev_2 t) d a b c.read_halfedge-third.ensures i;
+      first = halfedge_is twin vert edge l (3 * t) (next_0 t) (prev_0 t) a b d c.read_halfedge-first.ensures i;
+      second = halfedge_is twin vert edge l (3 * t + 1) (next_1 t) (prev_1 t) b d a c.read_halfedge-second.ensures i;
+      third = halfedge_is twin vert edge l (3 * t + 2) (next_2 t) (prev_2 t) d a b c.read_halfedge-third.ensures i;
     }

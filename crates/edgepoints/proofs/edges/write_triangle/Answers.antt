@@ -12,7 +12,7 @@ use Rattle.edgepoints.proofs.edges.write_triangle.Goals.{After-read_triangle-rea
 
 module _ (a : After-read_triangle-read) where
   abbrev s : Start
-  s = a.before.before.before.before.before
+  s = (goal.at.After-read_triangle-read a).Start
 
   abbrev n : ℕ
   n = s.args.vertices

@@ -1,15 +1,12 @@
 -- `copy_twins` keeps the cells written so far in front of what the table held past them.
-use Rattle.cagefile.specs.Numbers.{u16_at, as_twin}
-use Prim.Native.Nat.{ℕ, ◌+◌, ◌*◌, ◌<◌}
+use Rattle.cagefile.specs.Numbers.{as_twin}
+use Prim.Native.Nat.{◌-◌, ◌<◌}
 use mathlib.Core.Path.{◌≡◌, ap, ◌∙◌}
-use mathlib.Core.List.{List}
 use native.Mathlib.Omega.{arith}
 use lib.ListN.{length, length-set}
 use Rattle.laws.proofs.Filling.{over_next}
+use Rattle.filechecks.proofs.twins.copy_twins.Invariants.{cell}
 use Rattle.filechecks.proofs.twins.copy_twins.Goals as goal
-
-abbrev cell : List ℕ → ℕ → ℕ → ℕ
-cell file at h = as_twin (u16_at file (at + 2 * h))
 
 pub loop-halfedge-preserved : goal.loop-halfedge-preserved
 loop-halfedge-preserved c =

@@ -12,7 +12,7 @@ next_level-requires c = reached_stands _ _ _ c.requires c.loop-filled.invariant 
 
 pub overflow_add-at : goal.overflow_add-at
 overflow_add-at c =
-    omega (arith, c.well-formed.0.0, (reached_stands _ _ _ c.requires c.loop-filled.invariant c.loop-filled-test.true).twin.room, (reached_long _ _ _ c.requires c.loop-filled.invariant).0)
+    omega (arith, c.well_formed.0.0, (reached_stands _ _ _ c.requires c.loop-filled.invariant c.loop-filled-test.true).twin.room, (reached_long _ _ _ c.requires c.loop-filled.invariant).0)
 
 pub finer-table-requires : goal.finer-table-requires
 finer-table-requires c =

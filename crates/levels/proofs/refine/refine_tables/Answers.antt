@@ -14,4 +14,5 @@ fill-requires c =
 
 pub returns : goal.returns
 returns c =
-    refine_done _ _ _ _ c.plan-answer.result c.plan-answer.ensures c.number.ensures c.if-number-ne0.false c.counts_of-of.ensures c.count.ensures c.fill.ensures
+    let ready = refine_done _ _ _ _ c.plan-answer.result c.plan-answer.ensures c.number.ensures c.if-number-ne0.false c.counts_of-of.ensures c.count.ensures c.fill.ensures in
+    record { result_value = ready.0; edge_after = ready.1 }

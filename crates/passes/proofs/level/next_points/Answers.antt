@@ -31,7 +31,7 @@ module _ (s : Start) where
 
 -- the table after each pass
 abbrev start : After-clear_sums → Start
-start a = a.before.before.before.before.before.before
+start a = (goal.at.After-clear_sums a).Start
 
 is_cleared : (a : After-clear_sums) → a.clear_sums.new.points ≡ after_clear (start a).args.weight (own (start a)) (start a).args.level.before (start a).args.level.counts (c· (start a)) (l (start a)) (start a).requires
 is_cleared a = a.clear_sums.ensures

@@ -7,10 +7,7 @@ use Rattle.tables.specs.Tables.{tables}
 use Rattle.passes.specs.Internal.Levels.{with_levels}
 use Rattle.passes.proofs.Climbed.{climb_start, climb_asks, climb_fits, climb_on}
 use Rattle.passes.proofs.refine.climb.Goals as goal
-use Rattle.passes.proofs.refine.climb.Goals.{After-next-level, After-struct_known-1, At-loop-level, Start}
-
-abbrev start : At-loop-level → Start
-start b = b.before.before.before.before.before.before
+use Rattle.passes.proofs.refine.climb.Goals.{After-next-level}
 
 -- the next level has one level less after it
 left_next : (c : After-next-level) → c.next-level.result.left ≡ c.loop-level.level.left - 1
@@ -21,23 +18,21 @@ loop-level-init c = (omega arith, refl, climb_start c.args.weight _ _ _ _ _ c.re
 
 pub refine_level-requires : goal.refine_level-requires
 refine_level-requires c =
-    let s = start (goal.at.refine_level-requires c).After-struct_known-1 in
-    rw s.requires.listed (climb_asks s.args.weight _ _ _ _ _ s.requires.ready c.loop-level.invariant.2 (omega arith))
+    rw c.requires.listed (climb_asks c.args.weight _ _ _ _ _ c.requires.ready c.loop-level.invariant.2 (omega arith))
 
 pub next-level-requires : goal.next-level-requires
 next-level-requires c =
-    climb_fits (start (goal.at.next-level-requires c).After-struct_known-1).args.weight _ _ _ _ _ (start (goal.at.next-level-requires c).After-struct_known-1).requires.ready c.loop-level.invariant.2 (omega arith) (omega (arith, (start (goal.at.next-level-requires c).After-struct_known-1).well-formed.1.1.1.1.0)) (omega (arith, (start (goal.at.next-level-requires c).After-struct_known-1).well-formed.1.1.1.1.1.1.1))
+    climb_fits c.args.weight _ _ _ _ _ c.requires.ready c.loop-level.invariant.2 (omega arith) (omega arith) (omega arith)
 
 pub loop-level-smaller : goal.loop-level-smaller
 loop-level-smaller c = omega (arith, left_next c)
 
 pub loop-level-preserved : goal.loop-level-preserved
 loop-level-preserved c =
-    (omega (arith, left_next c, c.loop-level.invariant.0), search rules, climb_on (start (goal.at.loop-level-preserved c).After-struct_known-1).args.weight _ _ _ _ _ (start (goal.at.loop-level-preserved c).After-struct_known-1).requires.ready c.loop-level.invariant.2 (omega arith) c.next-level.ensures c.refine_level.ensures (omega (arith, left_next c, c.loop-level.invariant.0)))
+    (omega (arith, left_next c, c.loop-level.invariant.0), search rules, climb_on c.args.weight _ _ _ _ _ c.requires.ready c.loop-level.invariant.2 (omega arith) c.next-level.ensures c.refine_level.ensures (omega (arith, left_next c, c.loop-level.invariant.0)))
 
 pub returns : goal.returns
 returns c =
-    let s = start (goal.at.returns c).At-loop-level in
-    let e : (start (goal.at.returns c).At-loop-level).args.cage.left - c.loop-level.level.left ≡ (start (goal.at.returns c).At-loop-level).args.cage.left = omega arith in
+    let e : c.args.cage.left - c.loop-level.level.left ≡ c.args.cage.left = omega arith in
     c.loop-level.invariant.2.is_table
-    ∙ ap (λ d. with_levels s.args.weight s.args.cage.counts d (tables s.args.twin.now s.args.vert.now s.args.edge.now) s.args.creases.now s.args.points.now) e
+    ∙ ap (λ d. with_levels c.args.weight c.args.cage.counts d (tables c.args.twin.now c.args.vert.now c.args.edge.now) c.args.creases.now c.args.points.now) e

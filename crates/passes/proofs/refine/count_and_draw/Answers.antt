@@ -14,7 +14,7 @@ use Rattle.passes.proofs.refine.count_and_draw.Goals.{After-count_creases, Start
 -- the tally, once the creases are counted
 module _ (k : After-count_creases) where
   abbrev s : Start
-  s = k.before.before.before.before.before.before.before.before.before
+  s = (goal.at.After-count_creases k).Start
 
   enough : s.args.cage.vertices ≤ length k.count_creases.new.counts
   enough = let small = s.requires.0.few in search rules
@@ -35,5 +35,5 @@ pub returns : goal.returns
 returns c =
     let a = (s (goal.at.returns c).After-count_creases).args in
     c.draw_level.ensures
-    ∙ ap (λ counts. with_seams a.creases.now counts a.level (tables [] a.vert.now a.edge.now) a.points-1.now)
+    ∙ ap (λ counts. with_seams a.creases.now counts a.level (tables [] a.vert.now a.edge.now) a.points.now)
     (counted_lists a.level.number (cage_of a.cage (tables a.twin.now a.vert.now a.edge.now)) a.creases.now a.cage.vertices c.count_creases.new.counts (enough (goal.at.returns c).After-count_creases) c.count_creases.ensures)

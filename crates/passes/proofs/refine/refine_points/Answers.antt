@@ -11,7 +11,7 @@ use Rattle.passes.proofs.refine.refine_points.Goals.{After-count_numbers, Start}
 -- the tally, once the corners are counted
 module _ (k : After-count_numbers) where
   abbrev s : Start
-  s = k.before.before.before.before.before.before.before
+  s = (goal.at.After-count_numbers k).Start
 
   enough : s.args.table.vertices ≤ length k.count_numbers.new.tally
   enough = let small = s.requires.counts.vertices in search rules

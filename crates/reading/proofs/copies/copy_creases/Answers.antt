@@ -1,14 +1,11 @@
 -- `copy_creases` keeps the bytes written so far in front of what the table held past them.
-use Prim.Native.Nat.{ℕ, ◌+◌, ◌<◌}
+use Prim.Native.Nat.{◌-◌, ◌<◌}
 use mathlib.Core.Path.{◌≡◌, refl}
-use mathlib.Core.List.{List}
 use native.Mathlib.Omega.{arith}
-use lib.ListN.{length, get_or, length-set}
+use lib.ListN.{length, length-set}
 use Rattle.laws.proofs.Filling.{over_next}
+use Rattle.reading.proofs.copies.copy_creases.Invariants.{cell}
 use Rattle.reading.proofs.copies.copy_creases.Goals as goal
-
-abbrev cell : List ℕ → ℕ → ℕ → ℕ
-cell file at e = get_or file (at + e) 0
 
 pub loop-number-preserved : goal.loop-number-preserved
 loop-number-preserved c =

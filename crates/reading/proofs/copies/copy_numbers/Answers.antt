@@ -1,15 +1,11 @@
 -- `copy_numbers` keeps the cells written so far in front of what the table held past them.
-use Rattle.cagefile.specs.Numbers.{u16_at}
-use Prim.Native.Nat.{ℕ, ◌+◌, ◌*◌, ◌<◌}
+use Prim.Native.Nat.{◌-◌, ◌<◌}
 use mathlib.Core.Path.{◌≡◌}
-use mathlib.Core.List.{List}
 use native.Mathlib.Omega.{arith}
 use lib.ListN.{length, length-set}
 use Rattle.laws.proofs.Filling.{over_next}
+use Rattle.reading.proofs.copies.copy_numbers.Invariants.{cell}
 use Rattle.reading.proofs.copies.copy_numbers.Goals as goal
-
-abbrev cell : List ℕ → ℕ → ℕ → ℕ
-cell file at h = u16_at file (at + 2 * h)
 
 pub loop-halfedge-preserved : goal.loop-halfedge-preserved
 loop-halfedge-preserved c =

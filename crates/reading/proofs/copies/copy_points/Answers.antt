@@ -1,18 +1,13 @@
 -- `copy_points` keeps the cells written so far in front of what the table held past them.
 use mir.Syntax.{w32}
 use mir.Facts.{to_z-of_z}
-use lib.IntN.{ℤ}
-use Rattle.cagefile.specs.Numbers.{u32_at, signed}
-use Prim.Native.Nat.{ℕ, ◌+◌, ◌*◌, ◌<◌}
+use Prim.Native.Nat.{◌-◌, ◌<◌}
 use mathlib.Core.Path.{◌≡◌, ◌∙◌}
-use mathlib.Core.List.{List}
 use native.Mathlib.Omega.{arith}
 use lib.ListN.{length, length-set}
 use Rattle.laws.proofs.Filling.{over_next}
+use Rattle.reading.proofs.copies.copy_points.Invariants.{cell}
 use Rattle.reading.proofs.copies.copy_points.Goals as goal
-
-abbrev cell : List ℕ → ℕ → ℕ → ℤ
-cell file at i = signed (u32_at file (at + 4 * i))
 
 pub loop-index-preserved : goal.loop-index-preserved
 loop-index-preserved c =

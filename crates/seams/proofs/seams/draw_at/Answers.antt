@@ -10,7 +10,7 @@ use Rattle.seams.proofs.seams.draw_at.Goals.{After-read_corner-b, Start}
 -- both corners, read
 module _ (a : After-read_corner-b) where
   abbrev s : Start
-  s = a.before.before.before.before.before.before.before.before
+  s = (goal.at.After-read_corner-b a).Start
 
   from_is : a.read_corner-a.result ≡ corner_of s.args.vert.now s.args.points.now s.args.halfedge
   from_is = a.read_corner-a.ensures

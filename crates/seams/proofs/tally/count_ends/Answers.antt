@@ -33,4 +33,4 @@ count_one-requires-2 c =
 pub returns : goal.returns
 returns c =
     let a = (s (goal.at.returns c).After-next).args in
-    ends_added a.counts-1.now c.count_one.new.tally (search rules) c.wide-from.result c.count_one.ensures a.vert.now a.halfedge c.count_one-2.new.tally c.wide-from.ensures (c.wide-to.ensures ∙ ap (cell a.vert.now) c.next.ensures) c.count_one-2.ensures
+    ends_added a.counts.now c.count_one.new.tally (search rules) c.wide-from.result c.count_one.ensures a.vert.now a.halfedge c.count_one-2.new.tally c.wide-from.ensures (c.wide-to.ensures ∙ ap (cell a.vert.now) c.next.ensures) c.count_one-2.ensures

@@ -47,7 +47,9 @@ pub above_at-c-requires : goal.above_at-c-requires
 above_at-c-requires c = omega (arith, three (goal.at.above_at-c-requires c).In-loop-first, (start (goal.at.above_at-c-requires c).In-loop-first).requires.housed.1.room)
 
 pub put_edges-requires : goal.put_edges-requires
-put_edges-requires c = edges_ready (start (goal.at.put_edges-requires c).In-loop-first).requires.housed.1 c.loop-first.invariant (start (goal.at.put_edges-requires c).In-loop-first).requires.small_edges.0 (inside (goal.at.put_edges-requires c).In-loop-first)
+put_edges-requires c =
+    let ready = edges_ready (start (goal.at.put_edges-requires c).In-loop-first).requires.housed.1 c.loop-first.invariant (start (goal.at.put_edges-requires c).In-loop-first).requires.small_edges.0 (inside (goal.at.put_edges-requires c).In-loop-first) in
+    record { fits = ready.0; each_of = ready.1 }
 
 pub overflow_add-first-in-loop-first : goal.overflow_add-first-in-loop-first
 overflow_add-first-in-loop-first c = omega (arith, three (goal.at.overflow_add-first-in-loop-first c).In-loop-first, (start (goal.at.overflow_add-first-in-loop-first c).In-loop-first).requires.housed.0.small.halfedges)
@@ -64,7 +66,9 @@ pub loop-first-2-init : goal.loop-first-2-init
 loop-first-2-init c = (omega arith, λ xs f. f)
 
 pub put_edges-requires-in-loop-first-2 : goal.put_edges-requires-in-loop-first-2
-put_edges-requires-in-loop-first-2 c = edges_ready (start2 (goal.at.put_edges-requires-in-loop-first-2 c).In-loop-first-2).requires.housed.1 (so_far (goal.at.put_edges-requires-in-loop-first-2 c).In-loop-first-2) (start2 (goal.at.put_edges-requires-in-loop-first-2 c).In-loop-first-2).requires.small_edges.0 c.loop-first-2-test.true
+put_edges-requires-in-loop-first-2 c =
+    let ready = edges_ready (start2 (goal.at.put_edges-requires-in-loop-first-2 c).In-loop-first-2).requires.housed.1 (so_far (goal.at.put_edges-requires-in-loop-first-2 c).In-loop-first-2) (start2 (goal.at.put_edges-requires-in-loop-first-2 c).In-loop-first-2).requires.small_edges.0 c.loop-first-2-test.true in
+    record { fits = ready.0; each_of = ready.1 }
 
 pub overflow_add-first-in-loop-first-2 : goal.overflow_add-first-in-loop-first-2
 overflow_add-first-in-loop-first-2 c = omega (arith, three2 (goal.at.overflow_add-first-in-loop-first-2 c).In-loop-first-2, (start2 (goal.at.overflow_add-first-in-loop-first-2 c).In-loop-first-2).requires.housed.0.small.halfedges)

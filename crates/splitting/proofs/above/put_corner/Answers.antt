@@ -8,7 +8,7 @@ use Rattle.splitting.proofs.above.put_corner.Goals.{After-three-twins, Start}
 -- the twins that are read
 module _ (r : After-three-twins) where
   abbrev start : Start
-  start = r.before.before.before
+  start = (goal.at.After-three-twins r).Start
 
   last : Leaving 2 r.three-twins.result.0
   last = rw r.three-twins.ensures start.requires.corner_triangle.first

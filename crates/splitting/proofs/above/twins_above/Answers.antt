@@ -81,7 +81,8 @@ overflow_add-across-in-loop-corner c = omega (arith, few (start (goal.at.overflo
 
 pub put_corner-requires : goal.put_corner-requires
 put_corner-requires c =
-    corner_there (start (goal.at.put_corner-requires c).In-loop-corner).requires c.loop-corner.invariant.filled c.loop-corner-test.true _ refl (round (goal.at.put_corner-requires c).In-loop-corner).0
+    let ready = corner_there (start (goal.at.put_corner-requires c).In-loop-corner).requires c.loop-corner.invariant.filled c.loop-corner-test.true _ refl (round (goal.at.put_corner-requires c).In-loop-corner).0 in
+    record { fits = ready.0; corner_triangle = ready.1 }
 
 pub overflow_add-corner : goal.overflow_add-corner
 overflow_add-corner c = omega (arith, few (start (goal.at.overflow_add-corner c).In-loop-corner), three (goal.at.overflow_add-corner c).In-loop-corner)
@@ -95,7 +96,8 @@ overflow_add-across-in-loop-corner-3 c = omega (arith, few (start (goal.at.overf
 pub put_corner-requires-in-loop-corner : goal.put_corner-requires-in-loop-corner
 put_corner-requires-in-loop-corner c =
     let f = one (goal.at.put_corner-requires-in-loop-corner c).After-put_corner in
-    corner_there (start (goal.at.put_corner-requires-in-loop-corner c).In-loop-corner).requires f (omega (arith, three (goal.at.put_corner-requires-in-loop-corner c).In-loop-corner)) _ (omega arith) (round (goal.at.put_corner-requires-in-loop-corner c).In-loop-corner).1
+    let ready = corner_there (start (goal.at.put_corner-requires-in-loop-corner c).In-loop-corner).requires f (omega (arith, three (goal.at.put_corner-requires-in-loop-corner c).In-loop-corner)) _ (omega arith) (round (goal.at.put_corner-requires-in-loop-corner c).In-loop-corner).1 in
+    record { fits = ready.0; corner_triangle = ready.1 }
 
 pub overflow_add-corner-in-loop-corner : goal.overflow_add-corner-in-loop-corner
 overflow_add-corner-in-loop-corner c = omega (arith, few (start (goal.at.overflow_add-corner-in-loop-corner c).In-loop-corner), three (goal.at.overflow_add-corner-in-loop-corner c).In-loop-corner)
@@ -106,7 +108,8 @@ overflow_add-across-in-loop-corner-4 c = omega (arith, few (start (goal.at.overf
 pub put_corner-requires-in-loop-corner-2 : goal.put_corner-requires-in-loop-corner-2
 put_corner-requires-in-loop-corner-2 c =
     let f = two (goal.at.put_corner-requires-in-loop-corner-2 c).After-put_corner-in-loop-corner in
-    corner_there (start (goal.at.put_corner-requires-in-loop-corner-2 c).In-loop-corner).requires f (omega (arith, three (goal.at.put_corner-requires-in-loop-corner-2 c).In-loop-corner)) _ (omega arith) (round (goal.at.put_corner-requires-in-loop-corner-2 c).In-loop-corner).2
+    let ready = corner_there (start (goal.at.put_corner-requires-in-loop-corner-2 c).In-loop-corner).requires f (omega (arith, three (goal.at.put_corner-requires-in-loop-corner-2 c).In-loop-corner)) _ (omega arith) (round (goal.at.put_corner-requires-in-loop-corner-2 c).In-loop-corner).2 in
+    record { fits = ready.0; corner_triangle = ready.1 }
 
 pub overflow_add-corner-in-loop-corner-2 : goal.overflow_add-corner-in-loop-corner-2
 overflow_add-corner-in-loop-corner-2 c = omega (arith, few (start (goal.at.overflow_add-corner-in-loop-corner-2 c).In-loop-corner), three (goal.at.overflow_add-corner-in-loop-corner-2 c).In-loop-corner)
@@ -135,7 +138,8 @@ overflow_add-middle c = omega (arith, few (start2 (goal.at.overflow_add-middle c
 
 pub put_middle-requires : goal.put_middle-requires
 put_middle-requires c =
-    middle_there (start2 (goal.at.put_middle-requires c).In-loop-middle).requires (so_far (goal.at.put_middle-requires c).In-loop-middle) c.loop-middle-test.true
+    let ready = middle_there (start2 (goal.at.put_middle-requires c).In-loop-middle).requires (so_far (goal.at.put_middle-requires c).In-loop-middle) c.loop-middle-test.true in
+    record { fits = ready.0; middle_triangle = ready.1 }
 
 pub overflow_add-middle-in-loop-middle : goal.overflow_add-middle-in-loop-middle
 overflow_add-middle-in-loop-middle c = omega (arith, few (start2 (goal.at.overflow_add-middle-in-loop-middle c).In-loop-middle), c.loop-middle-test.true)

@@ -22,7 +22,9 @@ pub above_at-c-requires : goal.above_at-c-requires
 above_at-c-requires c = omega (arith, filled_three c.loop-first.invariant c.loop-first-test.true, c.requires.housed.1.room)
 
 pub put_edges-requires : goal.put_edges-requires
-put_edges-requires c = edges_ready c.requires.housed.1 c.loop-first.invariant c.requires.small_edges c.loop-first-test.true
+put_edges-requires c =
+    let ready = edges_ready c.requires.housed.1 c.loop-first.invariant c.requires.small_edges c.loop-first-test.true in
+    record { fits = ready.0; each_of = ready.1 }
 
 pub overflow_add-first-in-loop-first-2 : goal.overflow_add-first-in-loop-first-2
 overflow_add-first-in-loop-first-2 c = omega (arith, filled_three c.loop-first.invariant c.loop-first-test.true)

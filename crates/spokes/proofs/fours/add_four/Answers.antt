@@ -14,7 +14,7 @@ use Rattle.spokes.proofs.fours.add_four.Goals.{After-add_corner, After-add_corne
 -- the points that were read
 module _ (o : After-point_of-at_c) where
   abbrev start : Start
-  start = o.before.before.before.before.before.before.before.before.before.before.before.before
+  start = (goal.at.After-point_of-at_c o).Start
 
   abbrev n : ℕ
   n = start.args.vertices

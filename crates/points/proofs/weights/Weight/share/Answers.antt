@@ -5,9 +5,9 @@ use Rattle.points.specs.Weights.{share}
 use Rattle.points.proofs.weights.Weight.share.Goals as goal
 
 pub returns-in-Short : goal.returns-in-Short
-returns-in-Short c = ap (λ w. share w c.args.corners) (sym c.enum_told-1.given.1)
+returns-in-Short c = ap (λ w. share w c.args.corners) (sym c.in-Short.is)
 
 pub returns-in-Paper : goal.returns-in-Paper
 returns-in-Paper c =
     let n = c.args.corners in
-    ap (λ k. record { part = k; whole = 2 ^ 24 }) c.entry.ensures ∙ ap (λ w. share w n) (sym c.enum_told-in-Paper-1.given.1)
+    ap (λ k. record { part = k; whole = 2 ^ 24 }) c.entry.ensures ∙ ap (λ w. share w n) (sym c.in-Paper.is)
