@@ -24,7 +24,7 @@ module _ (i : Else-number-ne0) where
   done = told_done _ _ _ _ plan.plan-answer.result plan.plan-answer.ensures.result_value i.number.ensures i.if-number-ne0.false
 
   fits : length start.args.vert.now ≤ length plan.plan-answer.new.twins
-  fits = omega (arith, (limits _ _ _ _ done).0, start.requires, plan.plan-answer.kept.0)
+  fits = omega (arith, (limits _ _ _ _ done).0, start.requires, plan.plan-answer.auto.twins)
 
   built : take (length start.args.vert.now) plan.plan-answer.new.twins ≡ twin_table start.args.vert.now
   built = in_front_lem start.args.vert.now start.args.twins.now (plan.plan-answer.ensures.twins_after (sym i.number.ensures ∙ i.if-number-ne0.false))
@@ -45,4 +45,4 @@ write_built-requires c = writable _ _ _ _ (done (goal.at.write_built-requires c)
 pub returns : goal.returns
 returns c =
     let e = c.write_built.ensures in
-    build_done _ _ _ _ (done (goal.at.returns c).Else-number-ne0) (built (goal.at.returns c).Else-number-ne0) e.0 e.1.0 e.1.1
+    build_done _ _ _ _ (done (goal.at.returns c).Else-number-ne0) (built (goal.at.returns c).Else-number-ne0) e.result_value e.twin_after e.edge_after

@@ -35,7 +35,7 @@ module _ (n : After-number) where
   read = reads.read_form-read.result
 
   abbrev now : Tables
-  now = let twins = reads.read_form-read.new.twin in tables twins.0 twins.1.0 twins.1.1.0
+  now = tables reads.read_form-read.new.twin reads.read_form-read.new.vert reads.read_form-read.new.edge
 
   abbrev points : List ℤ
   points = reads.read_form-read.new.points
@@ -77,14 +77,14 @@ module _ (c : After-count_edges-edges) where
   creases_held : edges ≤ length (creases (n i))
   creases_held =
       let s = fronts i in
-      omega (arith, c.count_edges-edges.ensures ∙ ap E s.twin-1, edges_few (f (n i)), s.sound.few_halfedges, s.ample.creases)
+      omega (arith, c.count_edges-edges.ensures ∙ ap E s.twin, edges_few (f (n i)), s.sound.few_halfedges, s.ample.creases)
 
 pub returns-then-number-ne0 : goal.returns-then-number-ne0
 unfolding move
 returns-then-number-ne0 c =
     let a = (read (goal.at.returns-then-number-ne0 c).After-number).answer in
     let s = (start (goal.at.returns-then-number-ne0 c).After-number).args in
-    refused_left a (unread_moves s.from s.to (f (goal.at.returns-then-number-ne0 c).After-number) s.lent-1.now (told a) (reads (goal.at.returns-then-number-ne0 c).After-number).read_form-read.ensures.answer_value (λ z. c.if-number-ne0.true (c.number.ensures ∙ z))) c.number.ensures (file s.to (cage_in (f (goal.at.returns-then-number-ne0 c).After-number))) s.lent-1.now c.if-number-ne0.true
+    refused_left a (unread_moves s.from s.to (f (goal.at.returns-then-number-ne0 c).After-number) s.lent.now (told a) (reads (goal.at.returns-then-number-ne0 c).After-number).read_form-read.ensures.answer_value (λ z. c.if-number-ne0.true (c.number.ensures ∙ z))) c.number.ensures (file s.to (cage_in (f (goal.at.returns-then-number-ne0 c).After-number))) s.lent.now c.if-number-ne0.true
 
 pub overflow_mul-coordinates : goal.overflow_mul-coordinates
 overflow_mul-coordinates c = let s = fronts (goal.at.overflow_mul-coordinates c).Else-number-ne0 in omega (arith, s.vertices, s.sound.few_vertices)
@@ -135,4 +135,4 @@ returns c =
     let k = n j in
     let s = (start k).args in
     let there = cage_there (f k) (read k) (now k) (points k) (creases k) (fronts j) (edges (goal.at.returns c).After-count_edges-edges) c.count_edges-edges.ensures c.numbered.result c.numbered.ensures in
-    rw (← read_moves s.from s.to (f k) s.lent-1.now (told (read k).answer) (reads k).read_form-read.ensures.answer_value (passed j) _ there) c.write_form.ensures
+    rw (← read_moves s.from s.to (f k) s.lent.now (told (read k).answer) (reads k).read_form-read.ensures.answer_value (passed j) _ there) c.write_form.ensures

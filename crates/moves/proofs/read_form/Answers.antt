@@ -19,7 +19,7 @@ returns-then-number-ne0 c =
 pub returns : goal.returns
 returns c =
     let lent : Tables = tables c.args.twin.now c.args.vert.now c.args.edge.now in
-    let now : Tables = let twins = c.read.new.twin in tables twins.0 twins.1.0 twins.1.1.0 in
+    let now : Tables = tables c.read.new.twin c.read.new.vert c.read.new.edge in
     let points : List ℤ = c.read.new.points in
     let creases : List ℕ = c.read.new.creases in record {
       answer_value = ample_told _ lent c.args.points.now c.args.creases.now c.requires c.read.result now points creases c.read.ensures

@@ -37,7 +37,7 @@ module _ (n : After-is_numbered) where
   start = (goal.at.After-is_numbered n).Start
 
   one : start.args.form ≡ One
-  one = n.enum_told-in_default-1.given.1
+  one = n.in_default.is
 
 -- and what the answer of the checks tells
 module _ (n : After-number) where
@@ -52,7 +52,7 @@ module _ (n : After-number) where
 
 pub returns-in-Two : goal.returns-in-Two
 returns-in-Two c =
-    rw (c.enum_told-1.given.1, ← plain-written Two (cage (goal.at.returns-in-Two c).Start) (lent (goal.at.returns-in-Two c).Start) tt) c.write_form_2.ensures
+    rw (c.in-Two.is, ← plain-written Two (cage (goal.at.returns-in-Two c).Start) (lent (goal.at.returns-in-Two c).Start) tt) c.write_form_2.ensures
 
 pub returns-then-not-is_numbered : goal.returns-then-not-is_numbered
 returns-then-not-is_numbered c =

@@ -12,7 +12,7 @@ use Rattle.refining.proofs.plan.Goals.{Else-number-ne0, Start}
 abbrev start : Else-number-ne0 → Start
 start i = (goal.at.Else-number-ne0 i).Start
 
-passed : (i : Else-number-ne0) → let s = (start i).args in first (refine_checks s.weight (tables s.cage-twin.now s.cage-vert.now s.cage-edge.now) s.cage_creases.now s.cage_points.now s.depth) ≡ DONE
+passed : (i : Else-number-ne0) → let s = (start i).args in first (refine_checks s.weight (tables s.cage_twin.now s.cage_vert.now s.cage_edge.now) s.cage_creases.now s.cage_points.now s.depth) ≡ DONE
 passed i = cage_done _ _ _ _ _ i.check_for_refining-cage.result i.check_for_refining-cage.ensures i.number.ensures i.if-number-ne0.false
 
 pub returns-then-number-ne0 : goal.returns-then-number-ne0

@@ -12,7 +12,7 @@ use Rattle.refining.proofs.refine.Goals.{After-slice_known-4-1, Else-number-ne0,
 abbrev start : Else-number-ne0 → Start
 start i = (goal.at.Else-number-ne0 i).Start
 
-done : (i : Else-number-ne0) → let s = (start i).args in refine_verdict s.weight (tables s.cage-twin.now s.cage-vert.now s.cage-edge.now) s.cage_creases.now s.cage_points.now s.depth (tables s.twin-1.now s.vert-1.now s.edge-1.now) s.points-1.now s.creases-1.now ≡ DONE
+done : (i : Else-number-ne0) → let s = (start i).args in refine_verdict s.weight (tables s.cage_twin.now s.cage_vert.now s.cage_edge.now) s.cage_creases.now s.cage_points.now s.depth (tables s.twin.now s.vert.now s.edge.now) s.points.now s.creases.now ≡ DONE
 done i = told_done _ _ _ _ _ _ _ _ i.plan-answer.result i.plan-answer.ensures i.number.ensures i.if-number-ne0.false
 
 pub returns-then-number-ne0 : goal.returns-then-number-ne0

@@ -5,4 +5,4 @@ use Rattle.stl.proofs.facets.facet_of.Goals as goal
 pub returns : goal.returns
 returns c =
     let s = c.args in
-    record { same = facet_floats s.points.now s.t2 c.corner_of-a.ensures c.corner_of-b.ensures c.corner_of-c.ensures }
+    record { same = facet_floats s.points.now s.corners c.corner_of-a.ensures c.corner_of-b.ensures c.corner_of-c.ensures }

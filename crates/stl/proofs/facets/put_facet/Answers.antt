@@ -33,7 +33,7 @@ unfolding flat_map float_bytes
 returns c =
     let s = c.args in
     let f = s.facet in
-    five_written s.part-1.now _ _ _ _ _
+    five_written s.part.now _ _ _ _ _
     (three f.nx f.ny f.nz) (three f.ax f.ay f.az) (three f.bx f.by f.bz) (three f.cx f.cy f.cz) (u16 0)
     refl refl refl refl
     c.put_floats.ensures c.put_floats-2.ensures c.put_floats-3.ensures c.put_floats-4.ensures c.put_number.ensures
