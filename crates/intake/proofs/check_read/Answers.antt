@@ -13,7 +13,7 @@ use Rattle.reading.specs.declared.Reading.{Reading}
 use Rattle.intake.specs.Internal.Steps.{Held, front}
 use Rattle.intake.proofs.Outcomes.{unread_checked, read_checked_lem}
 use Rattle.intake.proofs.check_read.Goals as goal
-use Rattle.intake.proofs.check_read.Goals.{After-count_edges-edges, After-number, After-shared_slice_known-3-1, After-shared_slice_known-4-1, After-struct_known-1, Else-number-ne0, Start}
+use Rattle.intake.proofs.check_read.Goals.{After-count_edges-edges, Else-number-ne0, Start}
 
 -- where the file reads
 module _ (i : Else-number-ne0) where
@@ -39,7 +39,7 @@ module _ (i : Else-number-ne0) where
   fits = start.requires passed
 
 abbrev passed_in : After-count_edges-edges → Else-number-ne0
-passed_in e = (goal.at.After-count_edges-edges e).After-number
+passed_in e = (goal.at.After-count_edges-edges e).Else-number-ne0
 
 pub returns-then-number-ne0 : goal.returns-then-number-ne0
 returns-then-number-ne0 c =
