@@ -48,13 +48,19 @@ pub slice_bounds-count_edges-end : goal.slice_bounds-count_edges-end
 slice_bounds-count_edges-end c = sym (length-take-le _ _ (fits (goal.at.slice_bounds-count_edges-end c).Else-number-ne0).twin)
 
 pub slice_bounds-check_creased-end : goal.slice_bounds-check_creased-end
-slice_bounds-check_creased-end c = sym (length-take-le _ _ (fits (passed_in (goal.at.slice_bounds-check_creased-end c).After-count_edges-edges)).twin)
+slice_bounds-check_creased-end c =
+    let h = fits (passed_in (goal.at.slice_bounds-check_creased-end c).After-count_edges-edges) in
+    sym (length-take-le _ _ (omega arith))
 
 pub slice_bounds-check_creased-end-2 : goal.slice_bounds-check_creased-end-2
-slice_bounds-check_creased-end-2 c = sym (length-take-le _ _ (fits (passed_in (goal.at.slice_bounds-check_creased-end-2 c).After-count_edges-edges)).vert)
+slice_bounds-check_creased-end-2 c =
+    let h = fits (passed_in (goal.at.slice_bounds-check_creased-end-2 c).After-count_edges-edges) in
+    sym (length-take-le _ _ (omega arith))
 
 pub slice_bounds-check_creased-end-3 : goal.slice_bounds-check_creased-end-3
-slice_bounds-check_creased-end-3 c = sym (length-take-le _ _ (fits (passed_in (goal.at.slice_bounds-check_creased-end-3 c).After-count_edges-edges)).edge)
+slice_bounds-check_creased-end-3 c =
+    let h = fits (passed_in (goal.at.slice_bounds-check_creased-end-3 c).After-count_edges-edges) in
+    sym (length-take-le _ _ (omega arith))
 
 pub slice_bounds-check_creased-end-4 : goal.slice_bounds-check_creased-end-4
 slice_bounds-check_creased-end-4 c = sym (length-take-le _ _ (fits (passed_in (goal.at.slice_bounds-check_creased-end-4 c).After-count_edges-edges)).coordinates)
