@@ -11,7 +11,7 @@ use Rattle.intake.specs.Intake.{check_file}
 use Rattle.intake.specs.Internal.Steps.{read_checked}
 use Rattle.intake.proofs.Outcomes.{unread, file_held, file-checked, file_taken}
 use Rattle.intake.proofs.check_file.Goals as goal
-use Rattle.intake.proofs.check_file.Goals.{After-read-arg-2-1, After-read-reading, Start}
+use Rattle.intake.proofs.check_file.Goals.{After-read-reading, Start}
 
 -- what was read
 module _ (r : After-read-reading) where
@@ -31,7 +31,7 @@ module _ (r : After-read-reading) where
   found = r.read-reading.result
 
   abbrev now : Tables
-  now = let twins = r.read-reading.new.twin in tables twins.0 twins.1.0 twins.1.1.0
+  now = let lasts = r.read-reading.new in tables lasts.twin lasts.vert lasts.edge
 
   abbrev points : List ℤ
   points = r.read-reading.new.points
@@ -47,9 +47,14 @@ module _ (r : After-read-reading) where
 
 pub check_read-requires : goal.check_read-requires
 check_read-requires c =
-    λ z. file_held (file (goal.at.check_read-requires c).After-read-reading) (lent (goal.at.check_read-requires c).After-read-reading) (lent_points (goal.at.check_read-requires c).After-read-reading) (start (goal.at.check_read-requires c).After-read-reading).requires (found (goal.at.check_read-requires c).After-read-reading) (now (goal.at.check_read-requires c).After-read-reading) (points (goal.at.check_read-requires c).After-read-reading) (creases (goal.at.check_read-requires c).After-read-reading) (left (goal.at.check_read-requires c).After-read-reading) z
+    let r = (goal.at.check_read-requires c).After-read-reading in
+    λ z. file_held (file r) (lent r) (lent_points r) (start r).requires (found r) (now r) (points r) (creases r) (left r) z
 
 pub returns : goal.returns
 returns c =
-    let e = ◌∙◌ {b = read_checked (found (goal.at.returns c).After-read-reading) (now (goal.at.returns c).After-read-reading) (points (goal.at.returns c).After-read-reading) (creases (goal.at.returns c).After-read-reading)} c.check_read.ensures (same (goal.at.returns c).After-read-reading) in
-    record { result_value = e; taken = file_taken (file (goal.at.returns c).After-read-reading) (lent (goal.at.returns c).After-read-reading) (lent_points (goal.at.returns c).After-read-reading) (start (goal.at.returns c).After-read-reading).requires (found (goal.at.returns c).After-read-reading) (now (goal.at.returns c).After-read-reading) (points (goal.at.returns c).After-read-reading) (creases (goal.at.returns c).After-read-reading) (left (goal.at.returns c).After-read-reading) c.check_read.result e }
+    let r = (goal.at.returns c).After-read-reading in
+    let e = ◌∙◌ {b = read_checked (found r) (now r) (points r) (creases r)} c.check_read.ensures (same r) in
+    record {
+      result_value = e;
+      taken = file_taken (file r) (lent r) (lent_points r) (start r).requires (found r) (now r) (points r) (creases r) (left r) c.check_read.result e;
+    }

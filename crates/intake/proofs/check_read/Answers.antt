@@ -11,9 +11,9 @@ use Rattle.tables.specs.Tables.{Tables, tables}
 use Rattle.points.specs.Operations.{check_creased}
 use Rattle.reading.specs.declared.Reading.{Reading}
 use Rattle.intake.specs.Internal.Steps.{Held, front}
-use Rattle.intake.proofs.Outcomes.{unread_checked, read_checked_lem}
+use Rattle.intake.proofs.Outcomes.{read_checked_lem}
 use Rattle.intake.proofs.check_read.Goals as goal
-use Rattle.intake.proofs.check_read.Goals.{After-count_edges-edges, After-number, After-shared_slice_known-3-1, After-shared_slice_known-4-1, After-struct_known-1, Else-number-ne0, Start}
+use Rattle.intake.proofs.check_read.Goals.{After-count_edges-edges, Else-number-ne0, Start}
 
 -- where the file reads
 module _ (i : Else-number-ne0) where
@@ -39,11 +39,7 @@ module _ (i : Else-number-ne0) where
   fits = start.requires passed
 
 abbrev passed_in : After-count_edges-edges → Else-number-ne0
-passed_in e = (goal.at.After-count_edges-edges e).After-number
-
-pub returns-then-number-ne0 : goal.returns-then-number-ne0
-returns-then-number-ne0 c =
-    unread_checked c.args.reading _ _ _ c.answered.result _ c.answered.ensures (λ z. c.if-number-ne0.true (c.number.ensures ∙ z))
+passed_in e = (goal.at.After-count_edges-edges e).Else-number-ne0
 
 pub overflow_mul-coordinates : goal.overflow_mul-coordinates
 overflow_mul-coordinates c = omega (arith, (fits (goal.at.overflow_mul-coordinates c).Else-number-ne0).coordinates)

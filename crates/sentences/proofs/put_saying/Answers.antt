@@ -1,9 +1,8 @@
 -- `put_saying` keeps what is filled so far, and ends the line.
 use borrow.Author.Rules.{rules}
-use Prim.Native.Nat.{◌+◌, ◌-◌}
+use Prim.Native.Nat.{◌+◌}
 use mathlib.Core.Path.{◌≡◌, refl}
 use mathlib.Core.Bool.{cond}
-use mathlib.Core.Logic.{⊎_elim}
 use native.Mathlib.Omega.{arith}
 use lib.Dec.{eqb}
 use lib.ListN.{get_or}
@@ -11,6 +10,7 @@ use borrow.Author.Tests.{eq-eqb, ne_eqb}
 use Rattle.sentences.specs.Sentences.{hash, saying}
 use Rattle.sentences.proofs.Filling.{filled_none, filled_more, filled_all}
 use Rattle.sentences.proofs.put_saying.Goals as goal
+use Rattle.sentences.proofs.put_saying.Goals.{then-byte-eq-HASH, else-byte-eq-HASH}
 
 pub loop-i-init : goal.loop-i-init
 loop-i-init c = (omega arith, refl, filled_none _ _ _)
@@ -27,7 +27,10 @@ overflow_add-used c =
 pub loop-i-preserved : goal.loop-i-preserved
 loop-i-preserved c =
     let s = c.args in
-    let used : c.if-byte-eq-HASH.used ≡ cond (eqb (get_or s.text.now c.loop-i.i 0) hash) (c.loop-i.used + 1) c.loop-i.used = ⊎_elim (λ w. rw (eq-eqb _ hash w.0.taken) w.1) (λ w. rw (ne_eqb _ hash w.0.left) w.1) c.if-byte-eq-HASH.branch in
+    let used : c.if-byte-eq-HASH.used ≡ cond (eqb (get_or s.text.now c.loop-i.i 0) hash) (c.loop-i.used + 1) c.loop-i.used = elim c.if-byte-eq-HASH.branch [
+      | then-byte-eq-HASH w ↦ rw (eq-eqb _ hash w.if-byte-eq-HASH.true) w.used-is
+      | else-byte-eq-HASH w ↦ rw (ne_eqb _ hash w.if-byte-eq-HASH.false) w.used-is
+    ] in
     let put = rw c.number_at.ensures at c.put_piece-at.ensures in
     (omega arith, search rules, filled_more c.if-byte-eq-HASH.used c.loop-i-test.true c.loop-i.invariant.2 put used)
 
