@@ -20,11 +20,8 @@ fn main() {
 /// Runs host/build, which does nothing where the archive is up to date.
 fn made_here() -> Result<PathBuf, String> {
     let repository = Path::new(env!("CARGO_MANIFEST_DIR")).join("../..");
-    for input in ["crates", "crates.txt", "host/build"] {
-        println!(
-            "cargo::rerun-if-changed={}",
-            repository.join(input).display()
-        );
+    for input in inputs(&repository) {
+        println!("cargo::rerun-if-changed={}", input.display());
     }
     let build = repository.join("host/build");
     let made = Command::new(&build).output();
@@ -37,6 +34,19 @@ fn made_here() -> Result<PathBuf, String> {
         let last = said.trim_end().lines().last().unwrap_or_default();
         Err(format!("host/build made no archive: {last}"))
     }
+}
+
+/// What the archive is made from. What the toolchain makes of a crate stands in the
+/// crate's folder too, and is not among it.
+fn inputs(repository: &Path) -> Vec<PathBuf> {
+    let crates = repository.join("crates").read_dir().into_iter().flatten();
+    let folders = crates.flatten().map(|folder| folder.path());
+    let parts = folders.flat_map(|folder| ["src", "specs", "proofs"].map(|part| folder.join(part)));
+    let files = ["crates.txt", "host/build"].map(|file| repository.join(file));
+    files
+        .into_iter()
+        .chain(parts.filter(|part| part.is_dir()))
+        .collect()
 }
 
 fn link(archive: &Path) -> Result<(), String> {

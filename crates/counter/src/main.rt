@@ -9,29 +9,29 @@ mod question;
 
 use text::streams;
 
-fn main() {
+fn main(rt: HostRuntime) {
     // one byte more than the longest question
     let mut text = [0u8; 85];
-    count_input(&mut text);
+    count_input(&rt, &mut text);
 }
 
 // Answers what standard input holds, as much as the buffer takes: past the longest question more bytes change nothing
 // (`front-counted`).
-fn count_input(text: &mut [u8])
+fn count_input(rt: &HostRuntime, text: &mut [u8])
     requires { longest < length text.old }
 {
-    let read = streams::read(&mut *text);
+    let read = streams::read(rt, &mut *text);
     if read.failed {
         return;
     }
     let length = read.length;
-    count(&text[..length]);
+    count(rt, &text[..length]);
 }
 
 // Says the reply to a text.
-fn count(text: &[u8]) {
+fn count(rt: &HostRuntime, text: &[u8]) {
     let mut out = [0u8; 1024];
     let written = counting::count(text, &mut out);
     let length = written.length;
-    streams::say(&out[..length], written.status);
+    streams::say(rt, &out[..length], written.status);
 }

@@ -18,6 +18,7 @@ pub enum Question {
 }
 
 // The question that a text is.
+#[tactic(auto, unfolding(crate::specs::Counting::asked))]
 pub fn ask(text: &[u8]) -> Question
     ensures { result ≡ asked text.now }
 {

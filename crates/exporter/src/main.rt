@@ -11,27 +11,27 @@ use halfedges::table::HalfedgeTable;
 use stl::facets;
 use text::streams;
 
-fn main() {
+fn main(rt: HostRuntime) {
     // one byte more than the longest file that reads
     let mut file = [0u8; 46112];
-    export_input(&mut file);
+    export_input(&rt, &mut file);
 }
 
 // Exports what standard input holds, as much as the buffer takes: past the longest file that reads more bytes change nothing
 // (`front_replied`).
-fn export_input(file: &mut [u8])
+fn export_input(rt: &HostRuntime, file: &mut [u8])
     requires { longest < length file.old }
 {
-    let read = streams::read(&mut *file);
+    let read = streams::read(rt, &mut *file);
     if read.failed {
         return;
     }
     let length = read.length;
-    export(&file[..length]);
+    export(rt, &file[..length]);
 }
 
 // Puts out the opening for a file's bytes, then its facets, then the status.
-fn export(file: &[u8]) {
+fn export(rt: &HostRuntime, file: &[u8]) {
     let mut vert = [0u32; HalfedgeTable::MOST_HALFEDGES];
     let mut points = [0i32; 3 * HalfedgeTable::MOST_VERTICES];
     let mut out = [0u8; 1024];
@@ -39,22 +39,22 @@ fn export(file: &[u8]) {
     let length = opened.length;
     let halfedges = opened.halfedges;
     let coordinates = opened.coordinates;
-    if streams::put(&out[..length]) {
-        if put_facets(&vert[..halfedges], &points[..coordinates]) {
-            streams::end(opened.status);
+    if streams::put(rt, &out[..length]) {
+        if put_facets(rt, &vert[..halfedges], &points[..coordinates]) {
+            streams::end(rt, opened.status);
         }
     }
 }
 
 // Puts the facets of all triangles out, a facet at a time.
-fn put_facets(vert: &[u32], points: &[i32]) -> bool
+fn put_facets(rt: &HostRuntime, vert: &[u32], points: &[i32]) -> bool
     requires { Drawn vert.now points.now }
 {
     let mut facet = [0u8; facets::FACET];
     let mut triangle = 0;
     while triangle < vert.len() / 3 {
         facets::put_triangle(&mut facet, vert, points, triangle);
-        if !streams::put(&facet) {
+        if !streams::put(rt, &facet) {
             return false;
         }
         triangle += 1;

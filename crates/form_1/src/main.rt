@@ -3,8 +3,8 @@
 
 use cagefile::fields::Form;
 
-fn main() {
+fn main(rt: HostRuntime) {
     // one byte more than the longest file that reads
     let mut file = [0u8; 46112];
-    mover::move_input(&mut file, Form::Two, Form::One);
+    mover::move_input(&rt, &mut file, Form::Two, Form::One);
 }

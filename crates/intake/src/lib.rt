@@ -41,6 +41,7 @@ pub fn check_file(
 
 // The check of the cage that stands at the fronts of the tables, where the file reads; else its refusal. Form 1 has no creases, and as
 // many zeros stand for them as there are edges.
+#[tactic(auto, using(crate::proofs::Outcomes::unread_checked))]
 fn check_read(
     reading: Reading,
     twin: &[u32],

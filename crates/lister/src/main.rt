@@ -8,29 +8,29 @@ mod listing;
 
 use text::streams;
 
-fn main() {
+fn main(rt: HostRuntime) {
     // one byte more than the longest file that reads
     let mut file = [0u8; 46112];
-    list_input(&mut file);
+    list_input(&rt, &mut file);
 }
 
 // Lists what standard input holds, as much as the buffer takes: past the longest file that reads more bytes change nothing
 // (`front_replied`).
-fn list_input(file: &mut [u8])
+fn list_input(rt: &HostRuntime, file: &mut [u8])
     requires { longest < length file.old }
 {
-    let read = streams::read(&mut *file);
+    let read = streams::read(rt, &mut *file);
     if read.failed {
         return;
     }
     let length = read.length;
-    list(&file[..length]);
+    list(rt, &file[..length]);
 }
 
 // Says the listing of a file's bytes.
-fn list(file: &[u8]) {
+fn list(rt: &HostRuntime, file: &[u8]) {
     let mut out = [0u8; 1024];
     let written = listing::list(file, &mut out);
     let length = written.length;
-    streams::say(&out[..length], written.status);
+    streams::say(rt, &out[..length], written.status);
 }

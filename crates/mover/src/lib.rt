@@ -19,23 +19,23 @@ const LONGEST: usize = 46111;
 
 // Moves what standard input holds, as much as the buffer takes: past the longest file that reads more bytes change nothing
 // (`front_moved`).
-pub fn move_input(file: &mut [u8], from: Form, to: Form)
+pub fn move_input(rt: &HostRuntime, file: &mut [u8], from: Form, to: Form)
     requires { longest < length file.old }
 {
-    let read = streams::read(&mut *file);
+    let read = streams::read(rt, &mut *file);
     if read.failed {
         return;
     }
     let length = read.length;
-    hand_over(&file[..length], from, to);
+    hand_over(rt, &file[..length], from, to);
 }
 
 // Hands over the moved file, or the refusal.
-fn hand_over(file: &[u8], from: Form, to: Form) {
+fn hand_over(rt: &HostRuntime, file: &[u8], from: Form, to: Form) {
     let mut out = [0u8; LONGEST];
     let written = reply(file, from, to, &mut out);
     let length = written.length;
-    streams::hand_over(&out[..length], written.status);
+    streams::hand_over(rt, &out[..length], written.status);
 }
 
 // The reply to any bytes, the moved file or the refusal's line at the front of out.

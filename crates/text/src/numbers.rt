@@ -26,6 +26,7 @@ pub fn number_at(text: &[u8], at: usize, after: u8) -> Number
 }
 
 // The number of at most twenty digits at the front of a text, with a certain byte after it.
+#[tactic(auto, using(crate::proofs::Numerals::too_many))]
 fn number_in(text: &[u8], after: u8) -> Number
     ensures { result ≡ number_in text.now after }
 {

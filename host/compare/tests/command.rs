@@ -3,6 +3,7 @@
 //! standard error.
 
 use std::fs;
+use std::ops::Deref;
 use std::path::{Path, PathBuf};
 use std::process::{Command, Output};
 use std::sync::LazyLock;
@@ -511,35 +512,58 @@ fn a_file_is_taken_from_anywhere() {
     }
 }
 
-/// A copy of what the command needs, at a path with spaces, and a toolchain in
-/// front of the real one whose `rt check` notes the crate, and makes of the
-/// counter the program that is proved already.
-fn copy_with_toolchain(name: &str, fails_at: &str) -> PathBuf {
-    let copy = folder(name).join("a copy");
+/// A copy of what the command needs. It goes with the test that made it, since cargo
+/// may have its folders in the repository, in which `rt ci` takes no crates but the
+/// repository's own.
+struct Copied(PathBuf);
+
+impl Deref for Copied {
+    type Target = Path;
+
+    fn deref(&self) -> &Path {
+        &self.0
+    }
+}
+
+impl Drop for Copied {
+    fn drop(&mut self) {
+        let _ = fs::remove_dir_all(&self.0);
+    }
+}
+
+/// A copy at a path with spaces, with a toolchain of its own, whose `rt` notes the
+/// crate, and makes of the counter the program that is proved already.
+fn copy_with_toolchain(name: &str, fails_at: &str) -> Copied {
+    let copy = Copied(folder(name).join("a copy"));
     let script = format!(
         "set -e
          cd \"$0\"
          mkdir -p \"$1/host\" \"$1/toolchain/bin\"
-         cp -R crates crates.txt ryebadger \"$1\"
+         tar -cf - --exclude='crates/*/out' crates | tar -xf - -C \"$1\"
+         cp crates.txt ryebadger \"$1\"
          cp host/inputs host/build \"$1/host\"
          cp target/bin/counter \"$1/toolchain\"
-         rt=${{RATTLE_HOME:+$RATTLE_HOME/bin/rt}}
-         rt=$(readlink -f \"${{rt:-$(command -v rt)}}\")
-         ln -s \"$(dirname \"$rt\")/../on\" \"$1/toolchain/on\"
          cat >\"$1/toolchain/bin/rt\" <<'RT'
 #!/bin/sh
 [ \"$1\" != version ] || {{ echo of a test; exit 0; }}
-echo \"$2\" >>checked
+crate=$(basename \"$PWD\")
+echo \"$crate\" >>../../checked
 sleep 0.1
-[ \"$2\" != '{fails_at}' ] || {{ echo rt: a fact fails; exit 1; }}
-mkdir -p target/bin
-[ \"$2\" != counter ] || cp toolchain/counter target/bin/counter
+[ \"$crate\" != '{fails_at}' ] || {{ echo rt: a fact fails; exit 1; }}
+case $1,$crate in
+run,counter)
+    mkdir -p out
+    cp ../../toolchain/counter out
+    ;;
+lib,*) ;;
+*) exit 2 ;;
+esac
 RT
          chmod +x \"$1/toolchain/bin/rt\""
     );
     let mut shell = Command::new("sh");
     let repository = COMMAND.parent().expect("a folder");
-    let made = run(shell.arg("-c").arg(script).arg(repository).arg(&copy), b"");
+    let made = run(shell.arg("-c").arg(script).arg(repository).arg(&*copy), b"");
     assert_eq!(told(&made), (0, String::new(), String::new()));
     copy
 }

@@ -91,7 +91,7 @@ fn assert_none_is_zeros(name: &str, cage: &Cage, depth: u64) -> bool {
     assert_eq!(checked, ryebadger::check(some), "{name}");
     assert_eq!(ryebadger::why(none), ryebadger::why(some), "{name}");
     let judged = Question::Check(&zeros).put_to(&SecondProgram).verdict();
-    let numbers = |refusal: ryebadger::Refusal| (refusal.number().into(), refusal.place());
+    let numbers = |refusal: ryebadger::Refusal| (refusal.number().into(), refusal.place().into());
     assert_eq!(judged, checked.map_or_else(numbers, |_| (0, 0)), "{name}");
     let room = match checked {
         Ok(_) => room_at(&zeros, depth),

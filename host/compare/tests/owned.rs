@@ -15,7 +15,7 @@ use second::questions::{stl, triangles};
 
 /// Number and place.
 fn told(refusal: Refusal) -> (u64, u64) {
-    (refusal.number().into(), refusal.place())
+    (refusal.number().into(), refusal.place().into())
 }
 
 /// Form, weight and every table; of form 1 a 0 for each edge and the short weight.

@@ -15,25 +15,25 @@ at-level-requires t c = (c.requires.0.small, omega (arith, c.requires.0.shallow)
 
 pub ancestor-ancestor-requires : goal.ancestor-ancestor-requires
 ancestor-ancestor-requires t c = (
-      (down_small c.requires.0 c.requires.1 c.if-depth-eq0.false c.at-level.ensures).halfedges,
-      down_there c.requires.0 c.requires.1 c.if-depth-eq0.false c.at-level.ensures,
-    )
+  (down_small c.requires.0 c.requires.1 c.if-depth-eq0.false c.at-level.ensures).halfedges,
+  down_there c.requires.0 c.requires.1 c.if-depth-eq0.false c.at-level.ensures,
+)
 
 pub climb-old-requires : goal.climb-old-requires
 climb-old-requires t c = (
-      omega (arith, c.if-depth-eq0.false),
-      (
-        up_climbable c.requires.0 c.requires.1 c.if-depth-eq0.false,
-        up_there c.requires.0 c.requires.1 c.if-depth-eq0.false c.at-level.ensures c.ancestor-ancestor.ensures,
-      ),
-    )
+  omega (arith, c.if-depth-eq0.false),
+  (
+    up_climbable c.requires.0 c.requires.1 c.if-depth-eq0.false,
+    up_there c.requires.0 c.requires.1 c.if-depth-eq0.false c.at-level.ensures c.ancestor-ancestor.ensures,
+  ),
+)
 
 pub child-requires : goal.child-requires
 child-requires t c = (
-      old_small c.requires.0 c.requires.1 c.if-depth-eq0.false c.at-level.ensures c.ancestor-ancestor.ensures c.climb-old.ensures,
-      down_small c.requires.0 c.requires.1 c.if-depth-eq0.false c.at-level.ensures,
-      down_there c.requires.0 c.requires.1 c.if-depth-eq0.false c.at-level.ensures,
-    )
+  old_small c.requires.0 c.requires.1 c.if-depth-eq0.false c.at-level.ensures c.ancestor-ancestor.ensures c.climb-old.ensures,
+  down_small c.requires.0 c.requires.1 c.if-depth-eq0.false c.at-level.ensures,
+  down_there c.requires.0 c.requires.1 c.if-depth-eq0.false c.at-level.ensures,
+)
 
 pub returns : goal.returns
 returns t c = down_is c.requires.0 c.requires.1 c.if-depth-eq0.false c.at-level.ensures c.ancestor-ancestor.ensures c.climb-old.ensures c.child.ensures

@@ -16,7 +16,7 @@ pub loop-halfedge-preserved : goal.loop-halfedge-preserved
 loop-halfedge-preserved c =
     let i = c.loop-halfedge in (
       elim c.if-twin-halfedge.branch [
-        then-twin-halfedge w ↦ rw (add-one, eq-eqb _ _ w.if-twin-halfedge.true) (omega (arith, w.borders-is, i.invariant.0))
+        | then-twin-halfedge w ↦ rw (add-one, eq-eqb _ _ w.if-twin-halfedge.true) (omega (arith, w.borders-is, i.invariant.0))
         | else-twin-halfedge w ↦ rw (add-one, ne_eqb _ _ w.if-twin-halfedge.false) (omega (arith, w.borders-is, i.invariant.0))
       ],
       omega arith,

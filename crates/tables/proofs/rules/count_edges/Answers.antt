@@ -17,7 +17,7 @@ loop-halfedge-preserved c =
     let i = c.loop-halfedge in
     let e = c.is_above.ensures in (
       elim c.if-is_above.branch [
-        then-is_above w ↦ let t = sym e ∙ w.if-is_above.true in rw (add-one, t) (omega (arith, w.edges-is, i.invariant.0))
+        | then-is_above w ↦ let t = sym e ∙ w.if-is_above.true in rw (add-one, t) (omega (arith, w.edges-is, i.invariant.0))
         | else-is_above w ↦ let t = sym e ∙ w.if-is_above.false in rw (add-one, t) (omega (arith, w.edges-is, i.invariant.0))
       ],
       omega arith,

@@ -1,4 +1,0 @@
-pub mod Below
-pub mod Parts
-pub mod Totals
-pub mod Internal

@@ -1,3 +1,0 @@
--- What only contracts between functions cite.
-pub mod Parts
-pub mod Steps

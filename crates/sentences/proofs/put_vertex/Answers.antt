@@ -1,0 +1,13 @@
+-- The rule has a text for each clause.
+use mathlib.Core.Path.{ap}
+use native.Mathlib.Omega.{arith}
+use lib.ListN.{length}
+use Rattle.sentences.specs.Sentences.{vertex_line}
+use Rattle.sentences.proofs.put_vertex.Goals as goal
+
+pub put_clause-requires : goal.put_clause-requires
+put_clause-requires c = (omega arith, omega arith, omega arith, omega arith, ap length c.shown-numbers.ensures)
+
+pub returns : goal.returns
+unfolding vertex_line
+returns c = rw c.shown-numbers.ensures at c.put_clause.ensures
