@@ -1,5 +1,4 @@
 -- `put_lines` keeps the lines put so far, and B as often doubled.
-use Prim.Native.Nat.{◌-◌}
 use mathlib.Core.Path.{◌≡◌, refl, ◌∙◌}
 use native.Mathlib.Omega.{arith}
 use Rattle.text.proofs.Texts.{put_none, put_next}
@@ -21,8 +20,8 @@ overflow_mul-level_borders c =
 pub loop-level-preserved : goal.loop-level-preserved
 loop-level-preserved c =
     let s = c.args in
-    let new = level-line s.levels (doubled s.borders) c.loop-level.level c.counts_of.result c.loop-level.level-borders c.counts_of.ensures c.loop-level.invariant.1 c.put_level-at.ensures in
-    (omega arith, doubled-next s.borders c.loop-level.level c.loop-level.level-borders c.loop-level.invariant.1, c.put_level-at.auto.out ∙ c.loop-level.invariant.2, put_next (level_line s.levels (doubled s.borders)) 126 c.loop-level.level c.loop-level.invariant.3 new)
+    let new = level-line s.levels (doubled s.borders) c.loop-level.level c.counts_of.result c.loop-level.level_borders c.counts_of.ensures c.loop-level.invariant.1 c.put_level-at.ensures in
+    (omega arith, doubled-next s.borders c.loop-level.level c.loop-level.level_borders c.loop-level.invariant.1, c.put_level-at.auto.out ∙ c.loop-level.invariant.2, put_next (level_line s.levels (doubled s.borders)) 126 c.loop-level.level c.loop-level.invariant.3 new)
 
 pub returns : goal.returns
 returns c =
