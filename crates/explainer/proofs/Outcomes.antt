@@ -1,8 +1,8 @@
 -- What is said of a file, by what was found of it (`found_explained`), each outcome by the tests that lead to it; and that what is told
 -- holds of the cage in the file in plain words (`file_explained`). Assumes nothing.
-use Prim.Native.Nat.{ℕ}
+use Prim.Native.Nat.{ℕ, ◌<◌}
 use mathlib.Core.Path.{◌≡◌, sym, ap}
-use mathlib.Core.Logic.{◌≢◌}
+use mathlib.Core.Logic.{◌≢◌, inl}
 use mathlib.Core.List.{List}
 use native.Mathlib.Omega.{arith}
 use borrow.Author.Tests.{eq-eqb, ne_eqb}
@@ -59,6 +59,10 @@ module _ (f : List ℕ) (c : Tables) (v : ℕ) (w : Verdict) (e : c ≡ (cage_in
 pub clause_none : (f : List ℕ) (w : Verdict) → w ≡ (check_file f).verdict → Plain w.number → no_clause ≡ file_clause f
 unfolding file_clause
 clause_none f w t p = sym (no_clause_lem _ _ (check_file f).verdict (rw t at p))
+
+-- a number below those with clauses
+pub clause_none_below : (f : List ℕ) (w : Verdict) (n : ℕ) → w ≡ (check_file f).verdict → n ≡ w.number → n < 3 → no_clause ≡ file_clause f
+clause_none_below f w n t e l = clause_none f w t (inl (omega arith))
 
 pub vertices_there : (f : List ℕ) → VIn f ≡ vertices (cage_in f).points
 unfolding cage_in

@@ -25,11 +25,11 @@ use Rattle.cagefile.specs.declared.fields.Form.{Form}
 use Rattle.cagefile.specs.declared.fields.Form.TheVariants.{One, Two}
 use Rattle.cagefile.specs.Fields.{Head, opening}
 use Rattle.filechecks.specs.Contents.{HIn, VIn, form_of, heads_in, twins_in, past, cage_in}
-use Rattle.filechecks.specs.FileChecks.{field_checks, fields_checks, Asked, nothing, opening_asked, twins_asked, weight_asked, front_to_back, file_checks, both}
+use Rattle.filechecks.specs.FileChecks.{field_checks, fields_checks, Asked, opening_asked, twins_asked, weight_asked, front_to_back, file_checks, both}
 use Rattle.filechecks.specs.Internal.Sound.{front_checks}
 use Rattle.filechecks.proofs.Lengths.{twins-length}
 use Rattle.filechecks.proofs.Sound.{opening_kept, checks_sound, sound_length}
-use Rattle.filechecks.proofs.AfterTables.{left, tables, creased_left, left_one, left_two, tables_whole}
+use Rattle.filechecks.proofs.AfterTables.{left, creased_left, left_one, left_two, tables_whole}
 use Rattle.intake.specs.Intake.{check_file}
 
 -- ---- checks whose numbers have no clauses

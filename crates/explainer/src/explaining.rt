@@ -45,6 +45,7 @@ fn find(file: &[u8]) -> Finding
 }
 
 // The clause of what the check of a file answered. Where it has one, the tables in the file are whole.
+#[tactic(auto, using(crate::proofs::Outcomes::clause_none_below))]
 fn find_clause(file: &[u8], answer: Answer) -> Clause
     requires { told answer ≡ (check_file file.now).verdict }
     ensures { result ≡ file_clause file.now }

@@ -1,7 +1,7 @@
 -- `find_clause` looks into the file's own tables, which are whole where the answer has a clause.
 use Prim.Native.Nat.{ℕ, ◌+◌, ◌*◌, ◌≤◌}
 use mathlib.Core.Path.{◌≡◌, sym, ap, ◌∙◌}
-use mathlib.Core.Logic.{inl, inr}
+use mathlib.Core.Logic.{inr}
 use mathlib.Core.List.{List}
 use native.Mathlib.Omega.{arith}
 use lib.ListN.{length, take, length-replicate}
@@ -33,7 +33,7 @@ module _ (e : Else-number-gt7) where
   number = ap (λ w. w.number) (sym start.requires) ∙ sym e.number-number.ensures
 
   whole : (HIn file ≤ most_halfedges) × (18 + 6 * HIn file ≤ length file)
-  whole = file_whole file (omega (arith, number, e.if-number-lt3.false)) (omega (arith, number, e.if-number-gt7.false))
+  whole = file_whole file (omega (arith, number)) (omega (arith, number))
 
 -- the tables once they are copied
 module _ (h : After-halfedges_in-halfedges) where
@@ -65,10 +65,6 @@ module _ (h : After-halfedges_in-halfedges) where
   there : tables (take h.halfedges_in-halfedges.result copied.copy_tables.new.twin) (take h.halfedges_in-halfedges.result copied.copy_tables.new.vert) (take h.halfedges_in-halfedges.result copied.copy_tables.new.edge) ≡ (cage_in (file named)).connectivity
   unfolding cage_in
   there = λ i. tables (twin_filled.1 i) (vert_filled.1 i) (edge_filled.1 i)
-
-pub returns-then-number-lt3 : goal.returns-then-number-lt3
-returns-then-number-lt3 c =
-    c.none.ensures ∙ clause_none _ (told c.args.answer) c.requires (inl (omega (arith, c.number-number.ensures, c.if-number-lt3.true)))
 
 pub returns-then-number-gt7 : goal.returns-then-number-gt7
 returns-then-number-gt7 c =
