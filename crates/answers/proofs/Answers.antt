@@ -34,7 +34,6 @@ use Rattle.triangles.specs.Plain.{twin_table}
 use Rattle.triangles.proofs.Opposite.{twins_long}
 use Rattle.building.specs.Building.{build_checks, build_verdict, build_cage}
 use Rattle.building.proofs.Outcome.{limits}
-use Rattle.cagefile.specs.Fields.{number}
 use Rattle.answers.specs.Cells.{cells, level_numbers, level_cells}
 use Rattle.answers.specs.Internal.Fitting.{Fitting, Sevens}
 use Rattle.answers.proofs.Verdicts.{short_small, creased_small, refine_checks_small, lent_small}

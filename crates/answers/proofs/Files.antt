@@ -12,13 +12,11 @@ use Rattle.laws.proofs.Tests.{by-test}
 use Rattle.halfedges.specs.Cage.{most_halfedges, most_vertices}
 use Rattle.halfedges.specs.Refusals.{Verdict, SHAPE, LIMIT, TWIN, SHORT, FIELD, EXTRA, NOT_OLD, short, first, said}
 use Rattle.halfedges.proofs.Checks.{first_zero, done_both}
-use Rattle.halfedges.proofs.Questions.{within}
 use Rattle.tables.specs.Tables.{Tables}
 use Rattle.points.specs.declared.weights.Weight.{Weight}
 use Rattle.points.specs.declared.weights.Weight.TheVariants.{Short, Paper}
 use Rattle.points.specs.Weights.{weight_number}
 use Rattle.points.specs.Operations.{creased_checks}
-use Rattle.building.proofs.Outcome.{limits}
 use Rattle.cagefile.specs.declared.fields.Form.{Form}
 use Rattle.cagefile.specs.declared.fields.Form.TheVariants.{One, Two}
 use Rattle.cagefile.specs.Fields.{Cage, number, Head, opening, table_heads, later_heads, heads, file}

@@ -51,7 +51,7 @@ module _ (twin : List ℕ) (h : ℕ) (b : bad_twin twin h ≡ true) where
 
       inside : cell twin h < length twin → Dec (cell twin h ≡ h) → TwinBroken twin h (twin_clause twin h)
       inside l (yes e) = subst (TwinBroken twin h) (twin_itself_lem l e) (TwinBroken.itself has_twin l e)
-      inside l (no o) = subst (TwinBroken twin h) (twin_lost l o) (TwinBroken.not_returned_lem has_twin l o (lost l o))
+      inside l (no o) = subst (TwinBroken twin h) (twin_lost l o) (TwinBroken.not_returned has_twin l o (lost l o))
 
 -- ---- 4
 

@@ -96,7 +96,7 @@ Named k = (1 ≤ k.number) × (k.number ≤ 3)
 pub clause_named : {c : Tables} {v : ℕ} {w : Verdict} {k : Clause} → 3 ≤ w.number → w.number ≤ 7 → Explained c v w k → Named k
 clause_named a b (Explained.twin_at h e (TwinBroken.past x y)) = (omega arith, omega arith)
 clause_named a b (Explained.twin_at h e (TwinBroken.itself x y d)) = (omega arith, omega arith)
-clause_named a b (Explained.twin_at h e (TwinBroken.not_returned_lem x y d f)) = (omega arith, omega arith)
+clause_named a b (Explained.twin_at h e (TwinBroken.not_returned x y d f)) = (omega arith, omega arith)
 clause_named a b (Explained.vertex_at h e (VertexBroken.past x)) = (omega arith, omega arith)
 clause_named a b (Explained.vertex_at h e (VertexBroken.alike x y)) = (omega arith, omega arith)
 clause_named a b (Explained.vertex_at h e (VertexBroken.differ x y d f)) = (omega arith, omega arith)

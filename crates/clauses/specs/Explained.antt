@@ -11,7 +11,7 @@ use Rattle.clauses.specs.Clauses.{clause, no_clause}
 pub data TwinBroken (twin : List ℕ) (h : ℕ) : Clause → Type 0 where
   past : cell twin h ≢ marker → length twin ≤ cell twin h → TwinBroken twin h (clause 1 (cell twin h) (length twin) 0)
   itself : cell twin h ≢ marker → cell twin h < length twin → cell twin h ≡ h → TwinBroken twin h (clause 2 (cell twin h) 0 0)
-  not_returned_lem : cell twin h ≢ marker → cell twin h < length twin → cell twin h ≢ h → cell twin (cell twin h) ≢ h → TwinBroken twin h (clause 3 (cell twin h) (cell twin (cell twin h)) 0)
+  not_returned : cell twin h ≢ marker → cell twin h < length twin → cell twin h ≢ h → cell twin (cell twin h) ≢ h → TwinBroken twin h (clause 3 (cell twin h) (cell twin (cell twin h)) 0)
 
 -- 4
 pub data VertexBroken (twin vert : List ℕ) (v h : ℕ) : Clause → Type 0 where

@@ -14,7 +14,7 @@ PREV h = cond (eqb (h % 3) 0) (h + 2) (h - 1)
 abbrev pub F : ℕ → ℕ
 F h = h / 3
 
--- "The no_twin_lem marker is 4294967295"
+-- "The no-twin marker is 4294967295"
 abbrev pub marker : ℕ
 marker = 4294967295
 

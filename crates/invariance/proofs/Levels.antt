@@ -46,7 +46,7 @@ module _ (t : HalfedgeTable) (c : Tables) (d : ℕ) (p : Invariant t c d) (small
   still_added u l a =
       record {
         inside = λ n. last.old_corners u l ∙ a.inside (λ b. n (last.still_on_border u b));
-        on_border_lem = λ b. last.old_corners u l ∙ a.on_border_lem (last.was_on_border u l b);
+        on_border = λ b. last.old_corners u l ∙ a.on_border (last.was_on_border u l b);
       }
 
   quoted_halfedges : Hs t (suc d) ≡ H (level t c (suc d))
@@ -69,14 +69,14 @@ module _ (t : HalfedgeTable) (c : Tables) (d : ℕ) (p : Invariant t c d) (small
         quoted_halfedges = quoted_halfedges;
         quoted_edges = omega (arith, last.edges, p.quoted_edges, p.quoted_halfedges);
         quoted_vertices = quoted_vertices;
-        cage_corners_lem = λ u l. last.old_corners u (omega (arith, vertices-stay t d)) ∙ p.cage_corners_lem u l;
-        added-corners = λ u a b. by u a b (dec_lt u (Vs t d));
+        cage_corners = λ u l. last.old_corners u (omega (arith, vertices-stay t d)) ∙ p.cage_corners u l;
+        added_corners = λ u a b. by u a b (dec_lt u (Vs t d));
         halfedge_room = ap₂ ◌+◌ p.halfedge_room quoted_halfedges;
         vertex_room = ap₂ ◌+◌ p.vertex_room quoted_vertices;
       }
     where
       by : (u : ℕ) → Vs t 0 ≤ u → u < Vs t (suc d) → Dec (u < Vs t d) → Added (level t c (suc d)) u
-      by u a b (yes l) = still_added u l (p.added-corners u a l)
+      by u a b (yes l) = still_added u l (p.added_corners u a l)
       by u a b (no l) = last.new_vertex u (omega (arith, l)) b
 
 module _ (c : Tables) (v : ℕ) (s : Shaped c) (r : Ruled c v) where
@@ -93,8 +93,8 @@ module _ (c : Tables) (v : ℕ) (s : Shaped c) (r : Ruled c v) where
         quoted_halfedges = refl;
         quoted_edges = refl;
         quoted_vertices = sym (vertices-counted s r);
-        cage_corners_lem = λ u l. refl;
-        added-corners = λ u a b. absurd (omega arith);
+        cage_corners = λ u l. refl;
+        added_corners = λ u a b. absurd (omega arith);
         halfedge_room = refl;
         vertex_room = ap (λ x. 0 + x) (sym (vertices-counted s r));
       }

@@ -154,9 +154,9 @@ module _ {c : Tables} {v : ℕ} (q : Refinable c v) where
   edge_vertex {h} l (yes m) =
       record {
         inside = λ n. absurd (n (3 * h, rw (length-twins q) (omega arith), out_border q l m, inr (rw (next_0 h) ((vert_rows q).across l))));
-        on_border_lem = λ b. border-corners l m;
+        on_border = λ b. border-corners l m;
       }
-  edge_vertex {h} l (no n) = record { inside = λ b. inner-corners l n; on_border_lem = λ b. absurd (by (border_came _ b)) }
+  edge_vertex {h} l (no n) = record { inside = λ b. inner-corners l n; on_border = λ b. absurd (by (border_came _ b)) }
     where
       has_twin : {p : ℕ} → TWIN c p ≡ marker → (p ≡ h) ⊎ (p ≡ TWIN c h) → ⊥
       has_twin m (inl i) = n (ap (TWIN c) (sym i) ∙ m)

@@ -25,7 +25,7 @@ OnBorder c u = (h : ℕ) × (h < length c.twin) × (cell c.twin h ≡ marker) ×
 -- "added ones have six corners inside or three on a border"
 pub record Added (c : Tables) (u : ℕ) : Type 0 where
   pub inside : ¬ OnBorder c u → corners_at c u ≡ 6
-  pub on_border_lem : OnBorder c u → corners_at c u ≡ 3
+  pub on_border : OnBorder c u → corners_at c u ≡ 3
 
 -- level d of a cage c with counts t
 pub record Invariant (t : HalfedgeTable) (c : Tables) (d : ℕ) : Type 0 where
@@ -46,8 +46,8 @@ pub record Invariant (t : HalfedgeTable) (c : Tables) (d : ℕ) : Type 0 where
   pub quoted_edges : Es t d ≡ E (level t c d).twin
   pub quoted_vertices : Vs t d ≡ vertices_in (level t c d).vert
   -- "cage vertices keep their corner count"
-  pub cage_corners_lem : (u : ℕ) → u < Vs t 0 → corners_at (level t c d) u ≡ corners_at c u
-  pub added-corners : (u : ℕ) → Vs t 0 ≤ u → u < Vs t d → Added (level t c d) u
+  pub cage_corners : (u : ℕ) → u < Vs t 0 → corners_at (level t c d) u ≡ corners_at c u
+  pub added_corners : (u : ℕ) → Vs t 0 ≤ u → u < Vs t d → Added (level t c d) u
   -- "the quoted room is the sums from level 0"
   pub halfedge_room : room_h t d ≡ sum (suc d) (λ k. length (level t c k).twin)
   pub vertex_room : room_v t d ≡ sum (suc d) (λ k. vertices_in (level t c k).vert)

@@ -65,7 +65,7 @@ added_few c u a = by (dec_le (corners_at c u) 6)
   where
     by : Dec (corners_at c u ≤ 6) → corners_at c u ≤ 6
     by (yes l) = l
-    by (no l) = absurd (l (omega (arith, a.inside (λ b. l (omega (arith, a.on_border_lem b))))))
+    by (no l) = absurd (l (omega (arith, a.inside (λ b. l (omega (arith, a.on_border b))))))
 
 pub relied : (c : Tables) (v depth : ℕ) → first (table_checks c v depth) ≡ DONE → (d : ℕ) → d ≤ most_depth → Relied (counts_at (counts_of c v) d) (level (counts_of c v) c d)
 relied c v depth e d l =
@@ -77,8 +77,8 @@ relied c v depth e d l =
     (λ u b. by u b (dec_lt u (Vs (counts_of c v) 0)) p (corners_at_most m.0 m.2 u) k.0)
   where
     by : (u : ℕ) → u < Vs (counts_of c v) d → Dec (u < Vs (counts_of c v) 0) → Invariant (counts_of c v) c d → corners_at c u ≤ F (length c.twin) → length c.twin ≤ most_halfedges → corners_at (level (counts_of c v) c d) u ≤ most_corners
-    by u b (yes a) p few n = omega (arith, p.cage_corners_lem u a)
-    by u b (no a) p few n = omega (arith, added_few _ u (p.added-corners u (omega (arith, a)) b))
+    by u b (yes a) p few n = omega (arith, p.cage_corners u a)
+    by u b (no a) p few n = omega (arith, added_few _ u (p.added_corners u (omega (arith, a)) b))
 
 -- a vertex that no border halfedge leaves is not on the border, since none ends there either
 inside : (c : Tables) (v : ℕ) → (s : Shaped c) → (r : Ruled c v) → (small : length c.twin ≤ marker) → (u : ℕ) → count (length c.vert) (border_leaves c.twin c.vert u) ≡ 0 → ¬ OnBorder c u
@@ -121,14 +121,14 @@ module _ (c : Tables) (v depth : ℕ) (e : first (table_checks c v depth) ≡ DO
 
   cage_known : (u : ℕ) → u < v → known_corners own u ≡ corners_at (level t c d) u
   unfolding counts_at
-  cage_known u b = get_d_tabulate v (λ u. length (corners c.vert u)) u 6 b ∙ own_counted u ∙ sym (p.cage_corners_lem u b)
+  cage_known u b = get_d_tabulate v (λ u. length (corners c.vert u)) u 6 b ∙ own_counted u ∙ sym (p.cage_corners u b)
 
   added_known : (u : ℕ) → v ≤ u → known_corners own u ≡ 6
   added_known u b = get_or-eq_default own 6 (rw (length-tabulate v (λ u. length (corners c.vert u))) b)
 
   added : (u : ℕ) → v ≤ u → u < Vs t d → Added (level t c d) u
   unfolding counts_at
-  added u a b = p.added-corners u a b
+  added u a b = p.added_corners u a b
 
   pub known : Known own (level t c d).twin (level t c d).vert (Vs t d)
   unfolding counts_at

@@ -81,5 +81,5 @@ module _ (w : Weight) (c : Tables) (creases : List ℕ) (points : List ℤ) (dep
       where
         by : w ≡ Paper → Dec (u < vertices points) → corners_at (level (counts_of c (vertices points)) c d) u ≤ most_valence
         by paper (yes a) =
-            omega (arith, kept.cage_corners_lem u a, few_inside paper u a (λ on. inside (stays_on_border c v meant.0 meant.1 d within u on)))
-        by paper (no a) = omega (arith, (kept.added-corners u (omega (arith, a)) b).inside inside)
+            omega (arith, kept.cage_corners u a, few_inside paper u a (λ on. inside (stays_on_border c v meant.0 meant.1 d within u on)))
+        by paper (no a) = omega (arith, (kept.added_corners u (omega (arith, a)) b).inside inside)

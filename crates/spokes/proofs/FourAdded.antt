@@ -51,11 +51,11 @@ module _ (n : ℕ) (f : Four) (l : List ℤ) (adds : AddsFour n f l) where
 
   pub adds_v : {p q r m : List ℤ} → p ≡ point_of l f.v → q ≡ point_of l f.b → r ≡ point_of l f.c → m ≡ one n f l → AddsCorner n f.v f.a p q r m
   adds_v ep eq er em =
-      asks f.v f.b f.c f.a inside.in_v_lem inside.in_b inside.in_c inside.in_a ep eq er em (omega arith) within_one
+      asks f.v f.b f.c f.a inside.in_v inside.in_b inside.in_c inside.in_a ep eq er em (omega arith) within_one
 
   within_two : Within n (most_coordinate * most_corners + most_coordinate * 4 + most_coordinate * 4) (two n f l)
   within_two =
-      corner_within n f.v f.a (most_coordinate * most_corners + most_coordinate * 4) (point_of l f.v) (point_of l f.b) (point_of l f.c) (one n f l) inside.in_v_lem inside.in_a (near_three f.v f.b f.c inside.in_v_lem inside.in_b inside.in_c) within_one
+      corner_within n f.v f.a (most_coordinate * most_corners + most_coordinate * 4) (point_of l f.v) (point_of l f.b) (point_of l f.c) (one n f l) inside.in_v inside.in_a (near_three f.v f.b f.c inside.in_v inside.in_b inside.in_c) within_one
 
   pub adds_w : {p q r m : List ℤ} → p ≡ point_of l f.w → q ≡ point_of l f.c → r ≡ point_of l f.a → m ≡ two n f l → AddsCorner n f.w f.b p q r m
   adds_w ep eq er em =
@@ -67,7 +67,7 @@ module _ (n : ℕ) (l : List ℤ) (f : Four) (inside : Inside n f) where
   one_only = corner_only n l f.u f.a f.b f.c inside.in_u inside.in_c l
 
   two_only : Only (3 * n) (6 * n) l (two n f l)
-  two_only = only_on one_only (corner_only n l f.v f.b f.c f.a inside.in_v_lem inside.in_a (one n f l))
+  two_only = only_on one_only (corner_only n l f.v f.b f.c f.a inside.in_v inside.in_a (one n f l))
 
   pub add_four_only : Only (3 * n) (6 * n) l (add_four n f l)
   unfolding add_four
@@ -93,6 +93,6 @@ module _ (n : ℕ) (l : List ℤ) (f : Four) (inside : Inside n f) where
         let turn = corner-sum n l room points holds y k lk in
         turn f.w f.c f.a f.b inside.in_w inside.in_c inside.in_a inside.in_b (two n f l) two_only.long
         ∙ ap (λ z. added z of_w)
-        (turn f.v f.b f.c f.a inside.in_v_lem inside.in_b inside.in_c inside.in_a (one n f l) one_only.long
+        (turn f.v f.b f.c f.a inside.in_v inside.in_b inside.in_c inside.in_a (one n f l) one_only.long
         ∙ ap (λ z. added z of_v)
         (turn f.u f.a f.b f.c inside.in_u inside.in_a inside.in_b inside.in_c l refl))

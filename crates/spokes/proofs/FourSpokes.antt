@@ -32,7 +32,7 @@ use Rattle.spokes.proofs.Twelve.{brought, twelve_spokes, group}
 
 module _ (vert : List ℕ) (n : ℕ) (cornered : Cornered vert n) (before : ℕ) (four : Fourfold before vert) where
   inside : (g : ℕ) → g < before / 3 → Inside n (four_of vert g)
-  inside g lg = record { in_u = below 0 (omega arith) (omega arith); in_v_lem = below 3 (omega arith) refl; in_w = below 6 (omega arith) refl; in_a = below 1 (omega arith) refl; in_b = below 4 (omega arith) refl; in_c = below 7 (omega arith) refl }
+  inside g lg = record { in_u = below 0 (omega arith) (omega arith); in_v = below 3 (omega arith) refl; in_w = below 6 (omega arith) refl; in_a = below 1 (omega arith) refl; in_b = below 4 (omega arith) refl; in_c = below 7 (omega arith) refl }
     where
       below : (i : ℕ) {h : ℕ} → i < 9 → h ≡ 9 * g + i → cell vert h < n
       below i li e = cornered.below _ (omega (arith, e, four.long, four.whole))

@@ -1,4 +1,4 @@
--- A number of 64 bits has at most twenty digits (`few_digits`), and the fewest that hold it, in the library's words (`Fewest`), are as many
+-- A number of 64 bits has at most twenty digits (`few_digits`), and the fewest that hold it, in the library's words (`IsDigitCount`), are as many
 -- as the listing has (`fewest_is`). Assumes nothing.
 use Prim.Native.Nat.{ℕ, zero, suc, ◌-◌, ◌^◌, ◌≤◌, ◌<◌}
 use mathlib.Core.Path.{◌≡◌, ap, sym}

@@ -7,15 +7,13 @@ use mathlib.Core.Path.{◌≡◌, sym, ◌∙◌}
 use mathlib.Core.Logic.{◌≢◌}
 use mathlib.Core.Bool.{true, false, ◌&&◌, true≢false}
 use mathlib.Core.List.{List}
-use native.Mathlib.Decide.{ℕ_discrete}
 use native.Mathlib.Omega.{arith}
 use lib.Dec.{ltb}
 use lib.ListN.{length}
 use borrow.Author.Tests.{lt-ltb, le-ltb, ltb-true}
 use Rattle.laws.proofs.Tests.{by-test, and_true, and_false}
 use Rattle.alike.specs.Internal.Alike.{Marked, first_like}
-use Rattle.halfedges.specs.Cage.{NEXT, PREV, marker, cell}
-use Rattle.halfedges.proofs.Triangle.{next_prev}
+use Rattle.halfedges.specs.Cage.{NEXT, marker, cell}
 use Rattle.triangles.specs.Plain.{runs, Undoubled, twins, twin_of}
 use Rattle.triangles.specs.Internal.Joining.{Ended, crossing}
 use Rattle.triangles.proofs.Opposite.{runs_ends, ends_run, Opposite, opposite, are_twins, no_twin_lem, one_runs, twin_is}

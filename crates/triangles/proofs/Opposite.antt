@@ -7,7 +7,7 @@
 --     twin_is, has_twin                TWIN of a halfedge that has a twin, and what stands in TWIN
 --     twins_paired                     rule 3 is kept
 use Prim.Native.Nat.{ℕ, ◌<◌}
-use mathlib.Core.Path.{◌≡◌, sym, ap, ◌∙◌}
+use mathlib.Core.Path.{◌≡◌, sym, ◌∙◌}
 use mathlib.Core.Logic.{◌≢◌}
 use mathlib.Core.Bool.{true, false, not, ◌&&◌, true≢false}
 use mathlib.Core.List.{List}

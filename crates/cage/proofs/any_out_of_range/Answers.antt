@@ -1,6 +1,5 @@
 -- `any_out_of_range` has found whether one of the coordinates passed is out of range.
 use borrow.Author.Rules.{rules}
-use Prim.Native.Nat.{◌-◌}
 use mathlib.Core.Path.{◌≡◌, refl, ap₂}
 use mathlib.Core.Bool.{◌||◌}
 use native.Mathlib.Numerals.{add-one}

@@ -1,5 +1,4 @@
 -- `weight_refusal` looks at the field, and then at its byte, which is there where the field is whole.
-use Prim.Native.Nat.{◌+◌}
 use mathlib.Core.Path.{◌≡◌, sym, ◌∙◌}
 use mathlib.Core.List.{◌++◌}
 use native.Mathlib.Omega.{arith}

@@ -4,7 +4,6 @@ use mathlib.Core.Path.{◌≡◌, refl, sym, ap, ◌∙◌}
 use mathlib.Core.Bool.{true, false}
 use mathlib.Core.List.{List}
 use native.Mathlib.Omega.{arith}
-use borrow.Author.Tests.{not-true, not-false}
 use Rattle.halfedges.specs.declared.answer.Answer.TheVariants.{NotOld}
 use Rattle.halfedges.specs.Refusals.{told, first}
 use Rattle.tables.specs.Tables.{tables}

@@ -5,7 +5,7 @@ use mathlib.Core.List.{List}
 use native.Mathlib.Omega.{arith}
 use lib.IntN.{ℤ}
 use lib.ListN.{length, get_or}
-use borrow.Author.Tests.{eqb-true, eqb-false, not-true, not-false}
+use borrow.Author.Tests.{eqb-true, eqb-false}
 use Rattle.laws.specs.Below.{tabulate}
 use Rattle.laws.specs.Parts.{in_front}
 use Rattle.cagefile.specs.declared.fields.Form.TheVariants.{One, Two}

@@ -1,5 +1,4 @@
 -- `copy` has copied the cells passed, and left the others.
-use Prim.Native.Nat.{◌-◌}
 use mathlib.Core.Path.{refl}
 use native.Mathlib.Omega.{arith}
 use lib.IntN.{pos}

@@ -51,7 +51,7 @@ add_four n f l =
 -- they are vertices of a level
 pub record Inside (n : ℕ) (f : Four) : Type 0 where
   pub in_u : f.u < n
-  pub in_v_lem : f.v < n
+  pub in_v : f.v < n
   pub in_w : f.w < n
   pub in_a : f.a < n
   pub in_b : f.b < n

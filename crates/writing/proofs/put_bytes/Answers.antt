@@ -1,5 +1,4 @@
 -- `put_bytes` keeps the bytes put so far in front of what the part held past them.
-use Prim.Native.Nat.{◌-◌}
 use mathlib.Core.Path.{◌≡◌, refl}
 use native.Mathlib.Omega.{arith}
 use lib.ListN.{length}

@@ -1,6 +1,5 @@
 -- `put_numbers` keeps the numbers put so far in front of what the part held past them.
 use borrow.Author.Rules.{rules}
-use Prim.Native.Nat.{◌-◌}
 use mathlib.Core.Path.{◌≡◌, refl, ◌∙◌}
 use mathlib.Core.List.{flat_map}
 use native.Mathlib.Omega.{arith}

@@ -1,7 +1,6 @@
 -- `edge_clause` goes through the clauses of rule 6 in order; where two do not hold the third does, and there is a stranger.
 use Prim.Native.Nat.{◌<◌}
 use mathlib.Core.Path.{sym, ap, ◌∙◌}
-use mathlib.Core.Logic.{⊎_elim}
 use native.Mathlib.Omega.{arith}
 use lib.ListN.{length}
 use Rattle.halfedges.specs.Cage.{cell, E}

@@ -3,7 +3,6 @@ use mathlib.Core.Path.{◌∙◌}
 use native.Mathlib.Omega.{arith}
 use Rattle.halfedges.specs.Refusals.{CREASE}
 use Rattle.tables.proofs.Upto.{upto_none, upto_more, upto_found, upto_all}
-use Rattle.creases.specs.Creases.{bad_crease}
 use Rattle.creases.proofs.Borders.{bad_is}
 use Rattle.creases.proofs.check.first_bad_crease.Goals as goal
 

@@ -1,6 +1,6 @@
 -- `copy_twins` keeps the cells written so far in front of what the table held past them.
 use Rattle.cagefile.specs.Numbers.{as_twin}
-use Prim.Native.Nat.{◌-◌, ◌<◌}
+use Prim.Native.Nat.{◌<◌}
 use mathlib.Core.Path.{◌≡◌, ap, ◌∙◌}
 use native.Mathlib.Omega.{arith}
 use lib.ListN.{length, length-set}

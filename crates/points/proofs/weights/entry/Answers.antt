@@ -1,7 +1,6 @@
 -- `entry` answers by where the valence lies: at a number of its own, below the table, past it or in it.
 use mathlib.Core.Path.{sym}
 use native.Mathlib.Omega.{arith}
-use Rattle.points.specs.Weights.{most_valence}
 use Rattle.points.proofs.Shares.{below, past, listed}
 use Rattle.points.proofs.weights.entry.Goals as goal
 

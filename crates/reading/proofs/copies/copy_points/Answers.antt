@@ -1,7 +1,7 @@
 -- `copy_points` keeps the cells written so far in front of what the table held past them.
 use mir.Syntax.{w32}
 use mir.Facts.{to_z-of_z}
-use Prim.Native.Nat.{◌-◌, ◌<◌}
+use Prim.Native.Nat.{◌<◌}
 use mathlib.Core.Path.{◌≡◌, ◌∙◌}
 use native.Mathlib.Omega.{arith}
 use lib.ListN.{length, length-set}

@@ -1,6 +1,5 @@
 -- `count_creases` has counted the creases of the halfedges passed.
 use borrow.Author.Rules.{rules}
-use Prim.Native.Nat.{◌-◌}
 use mathlib.Core.Path.{refl}
 use native.Mathlib.Omega.{arith}
 use Rattle.seams.proofs.Counted.{tallied_none, tallied_on, tallied_few, tallied_all}

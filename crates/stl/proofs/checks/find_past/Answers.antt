@@ -1,6 +1,5 @@
 -- `find_past` goes up to the first halfedge whose corner is past the points.
 use borrow.Author.Rules.{rules}
-use Prim.Native.Nat.{◌-◌}
 use mathlib.Core.Path.{◌≡◌, sym}
 use mathlib.Core.Bool.{false}
 use native.Mathlib.Omega.{arith}

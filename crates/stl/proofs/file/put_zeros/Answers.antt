@@ -1,6 +1,5 @@
 -- `put_zeros` keeps the zeros put so far in front of what the part held past them.
 use borrow.Author.Rules.{rules}
-use Prim.Native.Nat.{◌-◌}
 use mathlib.Core.Path.{◌≡◌, refl}
 use native.Mathlib.Omega.{arith}
 use lib.ListN.{length-set}

@@ -1,5 +1,4 @@
 -- `check_twins` goes up to the first halfedge that is bad.
-use Rattle.tables.specs.Rules.{bad_twin}
 use Rattle.tables.proofs.Upto.{upto_none, upto_more, upto_found, upto_all}
 use Rattle.tables.proofs.rules.check_twins.Goals as goal
 

@@ -1,6 +1,5 @@
 -- `check_vertices` goes up to the first halfedge that is bad.
 use borrow.Author.Rules.{rules}
-use Rattle.tables.specs.Rules.{bad_vertex}
 use Rattle.tables.proofs.Upto.{upto_none, upto_more, upto_found, upto_all}
 use Rattle.tables.proofs.rules.check_vertices.Goals as goal
 

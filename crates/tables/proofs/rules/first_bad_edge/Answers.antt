@@ -1,6 +1,5 @@
 -- `first_bad_edge` goes up to the first halfedge that is bad.
 use borrow.Author.Rules.{rules}
-use Rattle.tables.specs.Rules.{bad_edge}
 use Rattle.tables.proofs.Upto.{upto_none, upto_more, upto_found, upto_all}
 use Rattle.tables.proofs.rules.first_bad_edge.Goals as goal
 
