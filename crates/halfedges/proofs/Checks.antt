@@ -1,5 +1,6 @@
 -- Laws of checks: when one is given and where, and which of a list is the answer. Assumes nothing.
 use Prim.Native.Nat.{ℕ, ◌<◌}
+use Rattle.std.specs.Prelude.{Ok, Err}
 use mathlib.Core.Path.{◌≡◌, refl, sym, ap, ◌∙◌}
 use mathlib.Core.Logic.{◌≢◌}
 use mathlib.Core.Bool.{Bool, true, false}
@@ -10,7 +11,9 @@ use borrow.Author.Tests.{eq-eqb, ne_eqb, eqb-false}
 use Rattle.laws.specs.Below.{any, lowest}
 use Rattle.laws.proofs.Tests.{by-test, any_false, false_any, true_any}
 use Rattle.laws.proofs.Lowest.{lowest_is}
-use Rattle.halfedges.specs.Refusals.{Verdict, DONE, given, given_at, first}
+use Rattle.halfedges.specs.declared.refusal.Refusal.{Refusal}
+use Rattle.halfedges.specs.Refusals.{Verdict, DONE, refused, given, given_at, first, said}
+use Rattle.halfedges.proofs.Told.{refused_number}
 
 -- a check is passed exactly where it is not given
 pub is_passed : (test : Bool) (w : Verdict) → test ≡ false → (given test w).number ≡ 0
@@ -67,16 +70,13 @@ passed_all (v ∷ vs) e = by (ℕ_discrete v.number 0) (λ q. passed_all vs (ap 
     by (yes q) rest = also q (rest q)
     by (no q) rest = absurd (q (ap (λ w. w.number) (sym (first-refused v vs q)) ∙ e))
 
--- a list of checks as the code goes through it: an answer a tells a verdict v, and n is its number
-module _ {a v : Verdict} {n : ℕ} (e : a ≡ v) (m : n ≡ a.number) where
-  pub number_zero : n ≡ 0 → v.number ≡ 0
-  number_zero z = ap (λ w. w.number) (sym e) ∙ sym m ∙ z
+-- a list of checks as the code goes through it: the first tells a refusal, or is passed
+module _ {v : Verdict} (vs : List Verdict) where
+  pub stops : (r : Refusal) → refused r ≡ v → refused r ≡ first (v ∷ vs)
+  stops r e = e ∙ sym (first-refused v vs (rw (← e) (refused_number r)))
 
-  pub answered : (vs : List Verdict) → n ≢ 0 → a ≡ first (v ∷ vs)
-  answered vs r = e ∙ sym (first-refused v vs (λ z. r (m ∙ ap (λ w. w.number) e ∙ z)))
-
-  pub passed_on : (vs : List Verdict) → n ≡ 0 → first vs ≡ first (v ∷ vs)
-  passed_on vs z = sym (first_passed v vs (number_zero z))
+  pub passes : DONE ≡ v → first vs ≡ first (v ∷ vs)
+  passes e = sym (first_passed v vs (ap (λ w. w.number) (sym e)))
 
 -- a list of one check
 pub given_alone : (n : ℕ) (bad : ℕ → Bool) (at : ℕ → Verdict) → ((k : ℕ) → (at k).number ≢ 0) → given_at n bad at ≡ first (given_at n bad at ∷ [])
@@ -120,11 +120,21 @@ module _ (vs ws : List Verdict) where
   pub done_both : first (vs ++ ws) ≡ DONE → (first vs ≡ DONE) × (first ws ≡ DONE)
   done_both e = let a = passed_both ws vs (passed_all (vs ++ ws) (number e)) in (all_passed_done a.0, all_passed_done a.1)
 
-  pub first_stops : (v : Verdict) → v ≡ first vs → v.number ≢ 0 → v ≡ first (vs ++ ws)
-  first_stops v e r = e ∙ sym (first_refused_before ws vs (λ z. r (number e ∙ z)))
+  pub stops_before : (r : Refusal) → refused r ≡ first vs → refused r ≡ first (vs ++ ws)
+  stops_before r e = e ∙ sym (first_refused_before ws vs (rw (← e) (refused_number r)))
 
-  pub first_passes : (v : Verdict) → v ≡ first vs → v.number ≡ 0 → first (vs ++ ws) ≡ first ws
-  first_passes v e z = first_more (first_zero vs (number (sym e) ∙ z))
+  pub passes_before : DONE ≡ first vs → first ws ≡ first (vs ++ ws)
+  passes_before e = sym (first_more (sym e))
+
+-- what is answered after a list of checks that tells v
+module _ {A : Type 0} {v : Verdict} (values zeros : A) where
+  pub said_refused : (r : Refusal) → refused r ≡ v → record { verdict = refused r; values = zeros } ≡ said v values zeros
+  unfolding said
+  said_refused r e = rw (← e, ne_eqb (refused r).number 0 (refused_number r)) refl
+
+  pub said_done : {x : A} → DONE ≡ v → x ≡ values → record { verdict = DONE; values = x } ≡ said v values zeros
+  unfolding said
+  said_done e f = rw (← e) (ap (λ y. record { verdict = DONE; values = y }) f)
 
 pub done_passes : (test : Bool) (v : Verdict) (vs : List Verdict) → eqb v.number 0 ≡ false → first (given test v ∷ vs) ≡ DONE → (test ≡ false) × (first vs ≡ DONE)
 done_passes test v vs r e = by (passed_all _ (number e))

@@ -1,8 +1,8 @@
 -- Document 01, "The cage": the corner question.
-use Rattle.std.specs.Prelude.{ℕ, ◌+◌, ◌*◌, ◌/◌, ◌%◌, Bool, not, ◌||◌, List, [], ◌∷◌, eqb, leb, length}
-use Rattle.halfedges.specs.declared.corners.Corners.{Corners}
+use Rattle.std.specs.Prelude.{ℕ, ◌+◌, ◌*◌, ◌/◌, ◌%◌, Bool, not, ◌||◌, List, [], ◌∷◌, Result, eqb, leb, length}
+use Rattle.halfedges.specs.declared.refusal.Refusal.{Refusal}
 use Rattle.halfedges.specs.Cage.{cell}
-use Rattle.halfedges.specs.Refusals.{SHAPE, told, given, Said, said}
+use Rattle.halfedges.specs.Refusals.{SHAPE, given, Said, said, answered}
 
 -- "a triangle's three corner numbers together, as stored"
 abbrev pub corners : List ℕ → ℕ → List ℕ
@@ -20,5 +20,5 @@ unfoldable pub corner_question : List ℕ → ℕ → Said (List ℕ)
 corner_question vert triangle = said (given (corner_shape vert triangle) SHAPE) (corners vert triangle) no_corners
 
 -- what the code's answer says
-abbrev pub cornered : Corners → Said (List ℕ)
-cornered r = record { verdict = told r.answer; values = r.corners }
+abbrev pub cornered : Result (List ℕ) Refusal → Said (List ℕ)
+cornered = answered (λ c. c) no_corners

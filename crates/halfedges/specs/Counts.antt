@@ -1,11 +1,11 @@
 -- Document 01, "One level to the next": the counts, and the count question.
-use Rattle.std.specs.Prelude.{ℕ, zero, suc, ◌+◌, ◌*◌, ◌%◌, Bool, cond, not, ◌||◌, List, [], ◌∷◌, eqb, leb, ltb}
+use Rattle.std.specs.Prelude.{ℕ, zero, suc, ◌+◌, ◌*◌, ◌%◌, Bool, cond, not, ◌||◌, List, [], ◌∷◌, Result, eqb, leb, ltb}
 use Rattle.halfedges.specs.declared.table.HalfedgeTable.{HalfedgeTable}
 use Rattle.halfedges.specs.declared.table.Levels.{Levels}
-use Rattle.halfedges.specs.declared.table.Counted.{Counted}
+use Rattle.halfedges.specs.declared.refusal.Refusal.{Refusal}
 use Rattle.laws.specs.Below.{tabulate, sum}
 use Rattle.halfedges.specs.Cage.{most_halfedges, most_vertices, most_depth}
-use Rattle.halfedges.specs.Refusals.{SHAPE, LIMIT, told, given, first, Said, said}
+use Rattle.halfedges.specs.Refusals.{SHAPE, LIMIT, given, first, Said, said, answered}
 
 -- "H becomes 4H, .. E becomes 2E+H, V becomes V+E"
 abbrev pub finer : HalfedgeTable → HalfedgeTable
@@ -85,5 +85,5 @@ count_question t depth =
     no_levels
 
 -- what the code's answer says
-abbrev pub counted : Counted → Said Levels
-counted r = record { verdict = told r.answer; values = r.levels }
+abbrev pub counted : Result Levels Refusal → Said Levels
+counted = answered (λ l. l) no_levels

@@ -1,7 +1,7 @@
 -- Document 01, "Why a cage is sent back", with the numbers that document 02 adds: the numbers, and how checks follow each other.
-use Rattle.std.specs.Prelude.{ℕ, Bool, cond, List, [], ◌∷◌, eqb, ltb}
-use Rattle.halfedges.specs.declared.answer.Answer.{Answer}
-use Rattle.halfedges.specs.declared.answer.Answer.TheVariants.{Done, Shape, Limit, Twin, Vertex, Unused, Edge, Fan, Point, Room, Short, Field, Extra, Doubled, Valence, Crease, NotOld, NoSuchHalfedge}
+use Rattle.std.specs.Prelude.{ℕ, Bool, cond, List, [], ◌∷◌, Result, Ok, Err, eqb, ltb}
+use Rattle.halfedges.specs.declared.refusal.Refusal.{Refusal}
+use Rattle.halfedges.specs.declared.refusal.Refusal.TheVariants.{Shape, Limit, Twin, Vertex, Unused, Edge, Fan, Point, Room, Short, Field, Extra, Doubled, Valence, Crease, NotOld, NoSuchHalfedge}
 use Rattle.laws.specs.Below.{any, lowest}
 use Rattle.laws.specs.Parts.{in_front}
 
@@ -68,26 +68,30 @@ NOT_OLD = numbered 16 0
 abbrev pub NO_SUCH_HALFEDGE : ℕ → Verdict
 NO_SUCH_HALFEDGE = numbered 17
 
--- what each case of the code's answer is called here
-abbrev pub told : Answer → Verdict
-told Done = DONE
-told Shape = SHAPE
-told Limit = LIMIT
-told (Twin h) = TWIN h
-told (Vertex h) = VERTEX h
-told (Unused v) = UNUSED v
-told (Edge h) = EDGE h
-told (Fan v) = FAN v
-told (Point i) = POINT i
-told (Room t) = ROOM t
-told (Short o) = SHORT o
-told (Field o) = FIELD o
-told (Extra o) = EXTRA o
-told (Doubled h) = DOUBLED h
-told (Valence v) = VALENCE v
-told (Crease e) = CREASE e
-told NotOld = NOT_OLD
-told (NoSuchHalfedge h) = NO_SUCH_HALFEDGE h
+-- what each case of the code's refusal is called here
+abbrev pub refused : Refusal → Verdict
+refused Shape = SHAPE
+refused Limit = LIMIT
+refused (Twin h) = TWIN h
+refused (Vertex h) = VERTEX h
+refused (Unused v) = UNUSED v
+refused (Edge h) = EDGE h
+refused (Fan v) = FAN v
+refused (Point i) = POINT i
+refused (Room t) = ROOM t
+refused (Short o) = SHORT o
+refused (Field o) = FIELD o
+refused (Extra o) = EXTRA o
+refused (Doubled h) = DOUBLED h
+refused (Valence v) = VALENCE v
+refused (Crease e) = CREASE e
+refused NotOld = NOT_OLD
+refused (NoSuchHalfedge h) = NO_SUCH_HALFEDGE h
+
+-- what the code's answer says: done, or the refusal
+abbrev pub told : {A : Type 0} → Result A Refusal → Verdict
+told (Ok a) = DONE
+told (Err r) = refused r
 
 -- "Given exactly when"
 unfoldable pub given : Bool → Verdict → Verdict
@@ -120,6 +124,11 @@ pub record Said (A : Type 0) : Type 0 where
 -- done returns values; in a refusal, "besides number and place everything in it is zero"
 unfoldable pub said : {A : Type 0} → Verdict → A → A → Said A
 said v values zeros = record { verdict = v; values = when_done v values zeros }
+
+-- number, place and what is returned besides, of the code's answer: "besides number and place everything in it is zero"
+abbrev pub answered : {A B : Type 0} → (A → B) → B → Result A Refusal → Said B
+answered f zeros (Ok a) = record { verdict = DONE; values = f a }
+answered f zeros (Err r) = record { verdict = refused r; values = zeros }
 
 -- a lent table once done: new cells, and past them what it held; "every refusal leaves all lent tables and file buffers unchanged"
 unfoldable pub filled : {A : Type 0} → Verdict → List A → List A → List A

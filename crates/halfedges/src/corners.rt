@@ -2,14 +2,7 @@
 ghost use Rattle.std.specs.Prelude.{◌≡◌, ◌+◌, ◌*◌, ◌<◌, length};
 ghost use Rattle.halfedges.specs.Corners.{corners as corners_corners, corner_shape, corner_question, cornered};
 
-use crate::answer::Answer;
-
-// The answer to the corner question.
-#[derive(Clone, Copy)]
-pub struct Corners {
-    pub answer: Answer,
-    pub corners: [u32; 3],
-}
+use crate::refusal::Refusal;
 
 // A triangle's three corner numbers together, as stored.
 pub fn corners_of(vert: &[u32], triangle: usize) -> [u32; 3]
@@ -21,20 +14,13 @@ pub fn corners_of(vert: &[u32], triangle: usize) -> [u32; 3]
 }
 
 // The corner question: a VERT table and a triangle number, both of any kind.
-pub fn corner_question(vert: &[u32], triangle: usize) -> Corners
+pub fn corner_question(vert: &[u32], triangle: usize) -> Result<[u32; 3], Refusal>
     ensures { cornered result ≡ corner_question vert.now triangle }
 {
     if misplaced(vert, triangle) {
-        return Corners {
-            answer: Answer::Shape,
-            corners: [0; 3],
-        };
+        return Err(Refusal::Shape);
     }
-    let corners = corners_of(vert, triangle);
-    Corners {
-        answer: Answer::Done,
-        corners,
-    }
+    Ok(corners_of(vert, triangle))
 }
 
 // The table has no such triangle: refusal 1 of the corner question.

@@ -5,7 +5,7 @@ ghost use Rattle.halfedges.specs.Refusals.{told};
 ghost use Rattle.halfedges.specs.Internal.Counts.{AtMost, counts_within, refused_count};
 ghost use Rattle.halfedges.specs.Counts.{finer as counts_finer, counts_at, levels as counts_levels, room_h, room_v, room_e, no_levels, count_shape, above_limit, count_question, counted};
 
-use crate::answer::Answer;
+use crate::refusal::Refusal;
 
 // The counts of one level's halfedge table: H, E and V.
 #[derive(Clone, Copy)]
@@ -179,20 +179,16 @@ impl HalfedgeTable {
     }
 
     // The count question, of any numbers.
-    pub fn count(self, depth: usize) -> Counted
+    pub fn count(self, depth: usize) -> Result<Levels, Refusal>
         ensures { counted result ≡ count_question self depth }
     {
         if self.misshapen() {
-            return Counted::refused(Answer::Shape);
+            return Err(Refusal::Shape);
         }
         if self.above_limit(depth) {
-            return Counted::refused(Answer::Limit);
+            return Err(Refusal::Limit);
         }
-        let levels = self.levels(depth);
-        Counted {
-            answer: Answer::Done,
-            levels,
-        }
+        Ok(self.levels(depth))
     }
 
     // No cage has these counts: refusal 1 of the count question.
@@ -241,7 +237,8 @@ pub struct Levels {
 }
 
 impl Levels {
-    fn none() -> Levels
+    // What stands where the counts would, of a refusal: zeros.
+    pub fn none() -> Levels
         ensures { result ≡ no_levels }
     {
         Levels {
@@ -252,22 +249,5 @@ impl Levels {
             vertex_room: 0,
             edge_room: 0,
         }
-    }
-}
-
-// The answer to the count question.
-#[derive(Clone, Copy)]
-pub struct Counted {
-    pub answer: Answer,
-    pub levels: Levels,
-}
-
-impl Counted {
-    // A refusal: besides number and place everything is zero.
-    pub fn refused(answer: Answer) -> Counted
-        ensures { counted result ≡ refused_count (told answer) }
-    {
-        let levels = Levels::none();
-        Counted { answer, levels }
     }
 }

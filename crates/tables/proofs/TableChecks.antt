@@ -1,6 +1,6 @@
 -- Each outcome of checks 1 to 3 of the tables, by the tests that lead to it (`pairs_shape`, `pairs_limit`, `pairs_twins`), and what they
--- leave for the rules after them (`for_places`, `for_fans`); all checks in three parts, `in_parts`. The check's answer by what its checks
--- told (`said-refused`, `said_done`), which determines the result (`checked-alike`). Assumes nothing.
+-- leave for the rules after them (`for_places`, `for_fans`); all checks in three parts, `in_parts`. A check's answer determines its result
+-- (`checked-alike`). Assumes nothing.
 use Prim.Native.Nat.{ℕ, ◌%◌, ◌≤◌}
 use mathlib.Core.Path.{◌≡◌, refl, sym, ◌∙◌}
 use mathlib.Core.Logic.{◌≢◌}
@@ -10,19 +10,20 @@ use native.Mathlib.Omega.{arith}
 use lib.Dec.{eqb}
 use lib.ListN.{length, get_or, replicate}
 use borrow.Author.Tests.{eq-eqb, ne_eqb}
-use Rattle.halfedges.specs.declared.answer.Answer.{Answer}
+use Rattle.std.specs.Prelude.{Result}
+use Rattle.halfedges.specs.declared.refusal.Refusal.{Refusal}
 use Rattle.halfedges.specs.Cage.{most_vertices}
-use Rattle.halfedges.specs.Refusals.{DONE, SHAPE, LIMIT, TWIN, VERTEX, UNUSED, FAN, told, given, given_at, first, said}
+use Rattle.halfedges.specs.Refusals.{DONE, SHAPE, LIMIT, TWIN, VERTEX, UNUSED, FAN, given, given_at, first}
 use Rattle.halfedges.proofs.Checks.{is_passed, first_passed, given_alone, done_passes, done_nowhere}
 use Rattle.halfedges.proofs.Questions.{limits_kept}
-use Rattle.halfedges.proofs.Told.{told-alike}
+use Rattle.halfedges.proofs.Told.{answered-alike}
 use Rattle.halfedges.specs.Counts.{above_limit}
 use Rattle.tables.specs.declared.check.Checked.{Checked}
 use Rattle.tables.specs.Tables.{Tables}
 use Rattle.tables.specs.Rules.{misshapen, bad_twin, bad_vertex, unused}
 use Rattle.tables.specs.Fans.{not_one_fan}
 use Rattle.tables.specs.Internal.Relied.{ForPlaces, ForFans}
-use Rattle.tables.specs.Check.{placing, rules, pairing, table_checks, returned, checked}
+use Rattle.tables.specs.Check.{placing, rules, pairing, table_checks, numbers, checked}
 use Rattle.tables.proofs.Meaning.{shaped, paired, placed, used}
 
 module _ (c : Tables) (v depth : ℕ) where
@@ -73,24 +74,16 @@ for_fans c v p e =
       p.room,
     )
 
--- a check's answer, from what its checks told
-module _ (a : Answer) (twin : List ℕ) (v : ℕ) {n : ℕ} (m : n ≡ (told a).number) where
-  pub said-refused : n ≢ 0 → record { verdict = told a; values = replicate 5 0 } ≡ said (told a) (returned twin v) (replicate 5 0)
-  unfolding said
-  said-refused r = rw (ne_eqb (told a).number 0 (λ z. r (m ∙ z)))
-
-  pub said_done : n ≡ 0 → record { verdict = told a; values = returned twin v } ≡ said (told a) (returned twin v) (replicate 5 0)
-  unfolding said
-  said_done z = rw (eq-eqb (told a).number 0 (sym m ∙ z))
-
 -- a promise determines the result: two told alike are the same
-pub checked-alike : (a b : Checked) → checked a ≡ checked b → a ≡ b
-checked-alike a b e =
+numbers-alike : (a b : Checked) → numbers a ≡ numbers b → a ≡ b
+numbers-alike a b e =
     λ i. record {
-      answer = told-alike a.answer b.answer (λ j. (e j).verdict) i;
-      halfedges = get_or (e i).values 0 0;
-      edges = get_or (e i).values 1 0;
-      triangles = get_or (e i).values 2 0;
-      vertices = get_or (e i).values 3 0;
-      borders = get_or (e i).values 4 0;
+      halfedges = get_or (e i) 0 0;
+      edges = get_or (e i) 1 0;
+      triangles = get_or (e i) 2 0;
+      vertices = get_or (e i) 3 0;
+      borders = get_or (e i) 4 0;
     }
+
+pub checked-alike : (a b : Result Checked Refusal) → checked a ≡ checked b → a ≡ b
+checked-alike = answered-alike numbers (replicate 5 0) numbers-alike

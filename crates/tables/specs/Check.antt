@@ -1,8 +1,9 @@
 -- What checking the tables alone answers.
-use Rattle.std.specs.Prelude.{ℕ, List, [], ◌∷◌, ◌++◌, length, replicate}
+use Rattle.std.specs.Prelude.{ℕ, List, [], ◌∷◌, ◌++◌, Result, length, replicate}
+use Rattle.halfedges.specs.declared.refusal.Refusal.{Refusal}
 use Rattle.tables.specs.declared.check.Checked.{Checked}
 use Rattle.halfedges.specs.Cage.{F, E, B}
-use Rattle.halfedges.specs.Refusals.{Verdict, SHAPE, LIMIT, TWIN, VERTEX, UNUSED, EDGE, FAN, told, given, given_at, first, Said, said}
+use Rattle.halfedges.specs.Refusals.{Verdict, SHAPE, LIMIT, TWIN, VERTEX, UNUSED, EDGE, FAN, given, given_at, first, Said, said, answered}
 use Rattle.halfedges.specs.Counts.{above_limit}
 use Rattle.tables.specs.Tables.{Tables}
 use Rattle.tables.specs.Rules.{misshapen, bad_twin, bad_vertex, unused, bad_edge}
@@ -46,10 +47,10 @@ returned twin v = length twin ∷ E twin ∷ F (length twin) ∷ v ∷ B twin �
 unfoldable pub check_tables : Tables → ℕ → Said (List ℕ)
 check_tables c v = said (first (table_checks c v 0)) (returned c.twin v) (replicate 5 0)
 
+-- H, E, F, V and B as the code has them
+abbrev pub numbers : Checked → List ℕ
+numbers c = c.halfedges ∷ c.edges ∷ c.triangles ∷ c.vertices ∷ c.borders ∷ []
+
 -- what the code's answer says
-abbrev pub checked : Checked → Said (List ℕ)
-checked r =
-    record {
-      verdict = told r.answer;
-      values = r.halfedges ∷ r.edges ∷ r.triangles ∷ r.vertices ∷ r.borders ∷ [];
-    }
+abbrev pub checked : Result Checked Refusal → Said (List ℕ)
+checked = answered numbers (replicate 5 0)

@@ -9,11 +9,11 @@ ghost use Rattle.tables.specs.Internal.Relied.{ForFans, Marked};
 
 use crate::cells::wide;
 use crate::rules::count_numbers;
-use halfedges::answer::Answer;
+use halfedges::refusal::Refusal;
 use halfedges::table::HalfedgeTable;
 
 // Rule 7, where rules 3 to 5 are kept.
-pub fn check_fans(twin: &[u32], vert: &[u32], vertices: usize) -> Answer
+pub fn check_fans(twin: &[u32], vert: &[u32], vertices: usize) -> Result<(), Refusal>
     requires { ForFans twin.now vert.now vertices × (vertices ≤ most_vertices) }
     ensures { told result ≡ given_at vertices (not_one_fan twin.now vert.now) FAN }
 {
@@ -29,11 +29,9 @@ fn keep_corners(vert: &[u32], kept: &mut [u32])
     requires { (length vert.now ≤ most_halfedges) × ((h : ℕ) → h < length vert.now → cell vert.now h < length kept.old) }
     ensures { Kept vert.now (length vert.now) kept.new }
 {
-    let mut halfedge = 0;
-    while halfedge < vert.len() {
+    for halfedge in 0..vert.len() {
         let vertex = wide(vert[halfedge]);
         kept[vertex] = halfedge as u32;
-        halfedge += 1;
     }
 }
 
@@ -44,20 +42,18 @@ fn first_not_one_fan(
     twin: &[u32],
     vert: &[u32],
     vertices: usize,
-) -> Answer
+) -> Result<(), Refusal>
     requires { ForFans twin.now vert.now vertices × Marked vert.now vertices kept.now corners.now }
     ensures { told result ≡ given_at vertices (not_one_fan twin.now vert.now) FAN }
 {
-    let mut vertex = 0;
-    while vertex < vertices {
+    for vertex in 0..vertices {
         let corner = wide(kept[vertex]);
         let size = fan_size(twin, corner);
         if size != wide(corners[vertex]) {
-            return Answer::Fan(vertex);
+            return Err(Refusal::Fan(vertex));
         }
-        vertex += 1;
     }
-    Answer::Done
+    Ok(())
 }
 
 // How many halfedges are joined with one: the walk goes against the links until it is round. Where it ends at a border

@@ -7,21 +7,19 @@ ghost use Rattle.tables.specs.Internal.Tally.{Tallied};
 ghost use Rattle.tables.specs.Internal.Relied.{ForVertices, ForEdges, TalliedTo};
 
 use crate::cells::{is_above, wide};
-use halfedges::answer::Answer;
+use halfedges::refusal::Refusal;
 use halfedges::table::HalfedgeTable;
 
 // Rule 3.
-pub fn check_twins(twin: &[u32]) -> Answer
+pub fn check_twins(twin: &[u32]) -> Result<(), Refusal>
     ensures { told result ≡ given_at (length twin.now) (bad_twin twin.now) TWIN }
 {
-    let mut halfedge = 0;
-    while halfedge < twin.len() {
+    for halfedge in 0..twin.len() {
         if bad_twin(twin, halfedge) {
-            return Answer::Twin(halfedge);
+            return Err(Refusal::Twin(halfedge));
         }
-        halfedge += 1;
     }
-    Answer::Done
+    Ok(())
 }
 
 fn bad_twin(twin: &[u32], halfedge: usize) -> bool
@@ -43,18 +41,16 @@ fn bad_twin(twin: &[u32], halfedge: usize) -> bool
 }
 
 // Rule 4, where rule 3 is kept.
-pub fn check_vertices(twin: &[u32], vert: &[u32], vertices: usize) -> Answer
+pub fn check_vertices(twin: &[u32], vert: &[u32], vertices: usize) -> Result<(), Refusal>
     requires { ForVertices twin.now vert.now }
     ensures { told result ≡ given_at (length twin.now) (bad_vertex twin.now vert.now vertices) VERTEX }
 {
-    let mut halfedge = 0;
-    while halfedge < twin.len() {
+    for halfedge in 0..twin.len() {
         if bad_vertex(twin, vert, vertices, halfedge) {
-            return Answer::Vertex(halfedge);
+            return Err(Refusal::Vertex(halfedge));
         }
-        halfedge += 1;
     }
-    Answer::Done
+    Ok(())
 }
 
 fn bad_vertex(twin: &[u32], vert: &[u32], vertices: usize, halfedge: usize) -> bool
@@ -83,11 +79,8 @@ pub fn count_numbers(table: &[u32], tally: &mut [u32])
     requires { (length table.now ≤ most_halfedges) × (Tallied table.now 0 tally.old) }
     ensures { Tallied table.now (length table.now) tally.new }
 {
-    let mut place = 0;
-    while place < table.len() {
-        let number = wide(table[place]);
-        count_one(tally, number);
-        place += 1;
+    for number in table {
+        count_one(tally, wide(*number));
     }
 }
 
@@ -104,7 +97,7 @@ pub fn count_one(tally: &mut [u32], number: usize)
 }
 
 // Rule 5.
-pub fn check_uses(vert: &[u32], vertices: usize) -> Answer
+pub fn check_uses(vert: &[u32], vertices: usize) -> Result<(), Refusal>
     requires { (length vert.now ≤ most_halfedges) × (vertices ≤ most_vertices) }
     ensures { told result ≡ given_at vertices (unused vert.now) UNUSED }
 {
@@ -114,18 +107,16 @@ pub fn check_uses(vert: &[u32], vertices: usize) -> Answer
 }
 
 // Rule 5, by a tally of each vertex's corners.
-fn first_unused(corners: &[u32], vert: &[u32], vertices: usize) -> Answer
+fn first_unused(corners: &[u32], vert: &[u32], vertices: usize) -> Result<(), Refusal>
     requires { TalliedTo vertices vert.now corners.now }
     ensures { told result ≡ given_at vertices (unused vert.now) UNUSED }
 {
-    let mut vertex = 0;
-    while vertex < vertices {
+    for vertex in 0..vertices {
         if corners[vertex] == 0 {
-            return Answer::Unused(vertex);
+            return Err(Refusal::Unused(vertex));
         }
-        vertex += 1;
     }
-    Answer::Done
+    Ok(())
 }
 
 // E, counted from the twins.
@@ -133,12 +124,10 @@ pub fn count_edges(twin: &[u32]) -> usize
     ensures { result ≡ E twin.now }
 {
     let mut edges = 0;
-    let mut halfedge = 0;
-    while halfedge < twin.len() {
+    for halfedge in 0..twin.len() {
         if is_above(twin[halfedge], halfedge) {
             edges += 1;
         }
-        halfedge += 1;
     }
     edges
 }
@@ -148,18 +137,16 @@ pub fn count_borders(twin: &[u32]) -> usize
     ensures { result ≡ B twin.now }
 {
     let mut borders = 0;
-    let mut halfedge = 0;
-    while halfedge < twin.len() {
-        if twin[halfedge] == HalfedgeTable::NO_TWIN {
+    for other in twin {
+        if *other == HalfedgeTable::NO_TWIN {
             borders += 1;
         }
-        halfedge += 1;
     }
     borders
 }
 
 // Rule 6, where rule 3 is kept.
-pub fn check_edges(twin: &[u32], edge: &[u32]) -> Answer
+pub fn check_edges(twin: &[u32], edge: &[u32]) -> Result<(), Refusal>
     requires { ForEdges twin.now edge.now }
     ensures { told result ≡ given_at (length twin.now)
         (bad_edge twin.now edge.now (E twin.now)) EDGE }
@@ -171,18 +158,16 @@ pub fn check_edges(twin: &[u32], edge: &[u32]) -> Answer
 }
 
 // Rule 6, by a tally of each edge's carriers.
-fn first_bad_edge(carriers: &[u32], twin: &[u32], edge: &[u32], edges: usize) -> Answer
+fn first_bad_edge(carriers: &[u32], twin: &[u32], edge: &[u32], edges: usize) -> Result<(), Refusal>
     requires { ForEdges twin.now edge.now × TalliedTo edges edge.now carriers.now }
     ensures { told result ≡ given_at (length twin.now) (bad_edge twin.now edge.now edges) EDGE }
 {
-    let mut halfedge = 0;
-    while halfedge < twin.len() {
+    for halfedge in 0..twin.len() {
         if bad_edge(carriers, twin, edge, edges, halfedge) {
-            return Answer::Edge(halfedge);
+            return Err(Refusal::Edge(halfedge));
         }
-        halfedge += 1;
     }
-    Answer::Done
+    Ok(())
 }
 
 fn bad_edge(carriers: &[u32], twin: &[u32], edge: &[u32], edges: usize, halfedge: usize) -> bool

@@ -1,12 +1,13 @@
 -- `check_tables` answers by its checks.
-use mathlib.Core.Path.{ap, ◌∙◌}
-use lib.ListN.{replicate}
-use Rattle.halfedges.specs.Refusals.{said}
-use Rattle.tables.specs.Check.{returned, check_tables}
+use Rattle.halfedges.proofs.Told.{handed_on}
+use Rattle.halfedges.proofs.Checks.{said_refused, said_done}
+use Rattle.tables.specs.Check.{check_tables}
 use Rattle.tables.proofs.check.check_tables.Goals as goal
+
+pub returns-in_err-check_for_depth : goal.returns-in_err-check_for_depth
+unfolding check_tables
+returns-in_err-check_for_depth c = rw (handed_on c.from_residual.ensures) (said_refused _ _ _ c.in_err-check_for_depth.ensures)
 
 pub returns : goal.returns
 unfolding check_tables
-returns c =
-    c.answered.ensures
-    ∙ ap (λ v. said v (returned c.args.twin.now c.args.vertices) (replicate 5 0)) c.check_for_depth-answer.ensures
+returns c = said_done _ _ c.in_ok-check_for_depth.ensures c.found.ensures

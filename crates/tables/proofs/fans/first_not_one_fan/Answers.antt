@@ -23,7 +23,7 @@ says c =
     (fan_counted _ _ _ c.requires.0.walkable c.requires.0.long c.requires.0.placed c.loop-vertex.vertex _ (corner (goal.at.After-wide c).In-loop-vertex))
 
 pub loop-vertex-init : goal.loop-vertex-init
-loop-vertex-init c = upto_none _ _
+loop-vertex-init c = upto_none _
 
 pub fan_size-size-requires : goal.fan_size-size-requires
 fan_size-size-requires c =
@@ -31,11 +31,11 @@ fan_size-size-requires c =
 
 pub returns-then-size-wide : goal.returns-then-size-wide
 returns-then-size-wide c =
-    upto_found _ c.loop-vertex.invariant c.loop-vertex-test.true (sym (says (goal.at.returns-then-size-wide c).After-wide)) (ap not (ne_eqb _ _ c.if-size-wide.true))
+    upto_found c.loop-vertex.invariant (sym (says (goal.at.returns-then-size-wide c).After-wide)) _ (omega arith) (ap not (ne_eqb _ _ c.if-size-wide.true))
 
 pub loop-vertex-preserved : goal.loop-vertex-preserved
 loop-vertex-preserved c =
-    upto_more c.loop-vertex.invariant c.loop-vertex-test.true (sym (says (goal.at.loop-vertex-preserved c).After-wide)) (ap not (eq-eqb _ _ c.if-size-wide.false))
+    upto_more c.loop-vertex.invariant (sym (says (goal.at.loop-vertex-preserved c).After-wide)) (ap not (eq-eqb _ _ c.if-size-wide.false))
 
 pub returns : goal.returns
-returns c = upto_all _ c.loop-vertex.invariant c.loop-vertex-test.false
+returns c = upto_all _ c.loop-vertex.invariant (omega arith)

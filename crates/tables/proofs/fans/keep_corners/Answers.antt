@@ -10,7 +10,7 @@ use Rattle.tables.proofs.fans.keep_corners.Goals.{After-wide-vertex}
 inside : (c : After-wide-vertex) → c.wide-vertex.result < length c.loop-halfedge.kept
 inside c =
     let i = c.loop-halfedge in
-    omega (arith, c.wide-vertex.ensures, i.invariant.0, c.requires.1 i.halfedge (omega arith))
+    omega (arith, c.wide-vertex.ensures, i.auto.kept, c.requires.1 i.halfedge (omega arith))
 
 pub offset_bounds-kept-vertex : goal.offset_bounds-kept-vertex
 offset_bounds-kept-vertex c = omega (arith, inside c)
@@ -21,7 +21,7 @@ bounds-kept-vertex c = inside c
 pub loop-halfedge-preserved : goal.loop-halfedge-preserved
 loop-halfedge-preserved c =
     let i = c.loop-halfedge in
-    (simp length-set i.invariant.0, omega arith, rw c.wide-vertex.ensures (kept_more _ _ i.halfedge (omega arith) (rw c.wide-vertex.ensures at (inside c)) i.invariant.2))
+    rw c.wide-vertex.ensures (kept_more _ _ i.halfedge (omega arith) (rw c.wide-vertex.ensures at (inside c)) i.invariant)
 
 pub returns : goal.returns
-returns c = let e : c.loop-halfedge.halfedge ≡ length c.args.vert.now = omega arith in rw (← e) c.loop-halfedge.invariant.2
+returns c = let e : c.loop-halfedge.halfedge ≡ length c.args.vert.now = omega arith in rw (← e) c.loop-halfedge.invariant

@@ -1,11 +1,6 @@
-use Prim.Native.Nat.{◌-◌}
-use lib.ListN.{length}
 use Rattle.tables.specs.Rules.{bad_vertex}
-use Rattle.tables.proofs.Upto.{Upto}
+use Rattle.halfedges.proofs.Checks.{Clean}
 use Rattle.tables.proofs.rules.check_vertices.Given as goal
 
 abbrev pub invariant-loop-halfedge : goal.invariant-loop-halfedge
-invariant-loop-halfedge l = Upto (length l.twin) (bad_vertex l.twin l.vert l.vertices) l.halfedge
-
-abbrev pub decreases-loop-halfedge : goal.decreases-loop-halfedge
-decreases-loop-halfedge l = length l.twin - l.halfedge
+invariant-loop-halfedge l = Clean l.halfedge (bad_vertex l.twin l.vert l.vertices)

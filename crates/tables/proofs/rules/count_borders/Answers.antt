@@ -7,21 +7,10 @@ use borrow.Author.Tests.{eq-eqb, ne_eqb}
 use Rattle.laws.proofs.Counts.{count_at_most}
 use Rattle.halfedges.specs.Cage.{border, B}
 use Rattle.tables.proofs.rules.count_borders.Goals as goal
-use Rattle.tables.proofs.rules.count_borders.Goals.{then-twin-halfedge, else-twin-halfedge}
 
 pub overflow_add-borders : goal.overflow_add-borders
-overflow_add-borders c = let i = c.loop-halfedge in omega (arith, i.invariant.0, count_at_most i.halfedge (border c.args.twin.now))
-
-pub loop-halfedge-preserved : goal.loop-halfedge-preserved
-loop-halfedge-preserved c =
-    let i = c.loop-halfedge in (
-      elim c.if-twin-halfedge.branch [
-        | then-twin-halfedge w ↦ rw (add-one, eq-eqb _ _ w.if-twin-halfedge.true) (omega (arith, w.borders-is, i.invariant.0))
-        | else-twin-halfedge w ↦ rw (add-one, ne_eqb _ _ w.if-twin-halfedge.false) (omega (arith, w.borders-is, i.invariant.0))
-      ],
-      omega arith,
-    )
+overflow_add-borders c = let i = c.loop-other in omega (arith, i.invariant, count_at_most i.other-index (border c.args.twin.now))
 
 pub returns : goal.returns
 unfolding B
-returns c = let e : c.loop-halfedge.halfedge ≡ length c.args.twin.now = omega arith in rw (← e) c.loop-halfedge.invariant.0
+returns c = let e : c.loop-other.other-index ≡ length c.args.twin.now = omega arith in rw (← e) c.loop-other.invariant

@@ -1,12 +1,7 @@
-use Prim.Native.Nat.{◌-◌, ◌≤◌}
 use mathlib.Core.Path.{◌≡◌}
-use lib.ListN.{length}
 use Rattle.laws.specs.Below.{count}
 use Rattle.halfedges.specs.Cage.{above}
 use Rattle.tables.proofs.rules.count_edges.Given as goal
 
 abbrev pub invariant-loop-halfedge : goal.invariant-loop-halfedge
-invariant-loop-halfedge l = (l.edges ≡ count l.halfedge (above l.twin)) × (l.halfedge ≤ length l.twin)
-
-abbrev pub decreases-loop-halfedge : goal.decreases-loop-halfedge
-decreases-loop-halfedge l = length l.twin - l.halfedge
+invariant-loop-halfedge l = l.edges ≡ count l.halfedge (above l.twin)

@@ -7,17 +7,17 @@ use Rattle.tables.proofs.Carriers.{unused-count}
 use Rattle.tables.proofs.rules.first_unused.Goals as goal
 
 pub loop-vertex-init : goal.loop-vertex-init
-loop-vertex-init c = upto_none _ _
+loop-vertex-init c = upto_none _
 
 pub returns-then-corners-vertex-eq0 : goal.returns-then-corners-vertex-eq0
 returns-then-corners-vertex-eq0 c =
     let i = c.loop-vertex in
-    upto_found _ i.invariant c.loop-vertex-test.true (sym (unused-count _ i.vertex)) (eq-eqb _ _ (sym (c.requires.counted.each i.vertex (omega arith)) ∙ c.if-corners-vertex-eq0.true))
+    upto_found i.invariant (sym (unused-count _ i.vertex)) _ (omega arith) (eq-eqb _ _ (sym (c.requires.counted.each i.vertex (omega arith)) ∙ c.if-corners-vertex-eq0.true))
 
 pub loop-vertex-preserved : goal.loop-vertex-preserved
 loop-vertex-preserved c =
     let i = c.loop-vertex in
-    upto_more i.invariant c.loop-vertex-test.true (sym (unused-count _ i.vertex)) (ne_eqb _ _ (λ e. c.if-corners-vertex-eq0.false (c.requires.counted.each i.vertex (omega arith) ∙ e)))
+    upto_more i.invariant (sym (unused-count _ i.vertex)) (ne_eqb _ _ (λ e. c.if-corners-vertex-eq0.false (c.requires.counted.each i.vertex (omega arith) ∙ e)))
 
 pub returns : goal.returns
-returns c = upto_all _ c.loop-vertex.invariant c.loop-vertex-test.false
+returns c = upto_all _ c.loop-vertex.invariant (omega arith)
