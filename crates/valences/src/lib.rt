@@ -13,7 +13,12 @@ use tables::cells::wide;
 use tables::rules::count_numbers;
 
 // Rule 14 by the weight chosen, where rules 1 to 4 are kept.
-pub fn check_valences(weight: Weight, twin: &[u32], vert: &[u32], vertices: usize) -> Result<(), Refusal>
+pub fn check_valences(
+    weight: Weight,
+    twin: &[u32],
+    vert: &[u32],
+    vertices: usize,
+) -> Result<(), Refusal>
     requires { ForValences twin.now vert.now vertices }
     ensures { told result ≡ first (valence_checks weight twin.now vert.now vertices) }
 {
@@ -60,7 +65,12 @@ fn clear_ends(twin: &[u32], vert: &[u32], corners: &mut [u32], halfedge: usize)
 }
 
 // Rule 14, by a tally of the corners of each vertex inside.
-fn first_of_many(corners: &[u32], twin: &[u32], vert: &[u32], vertices: usize) -> Result<(), Refusal>
+fn first_of_many(
+    corners: &[u32],
+    twin: &[u32],
+    vert: &[u32],
+    vertices: usize,
+) -> Result<(), Refusal>
     requires { CountedInside twin.now vert.now vertices corners.now }
     ensures { told result ≡ given_at vertices (many_corners twin.now vert.now) VALENCE }
 {
