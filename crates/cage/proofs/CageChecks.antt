@@ -2,7 +2,7 @@
 -- `refine_parts`; both by `checks_then_lem`. 8 alone, `points_last`. With the short weight there is no 14, `short_checks`. Where the checks are done 1 to 7 are, `tables-accepted`. What rule 14 relies on:
 -- `for_valences`. A coordinate out of range, by its sign: `too_low`, `too_high`. Assumes nothing.
 use Prim.Native.Nat.{ℕ, suc, ◌-◌, ◌%◌}
-use mathlib.Core.Path.{◌≡◌, refl, sym, ◌∙◌}
+use mathlib.Core.Path.{◌≡◌, refl, sym}
 use mathlib.Core.Logic.{◌≢◌}
 use mathlib.Core.Bool.{true, false, true≢false}
 use mathlib.Core.List.{List, [], ◌∷◌, ◌++◌}

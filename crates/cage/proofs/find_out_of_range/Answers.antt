@@ -1,5 +1,4 @@
 -- `find_out_of_range` goes up to the first coordinate that is out of range.
-use borrow.Author.Rules.{rules}
 use mathlib.Core.Path.{◌≡◌, sym, ◌∙◌}
 use mathlib.Core.Bool.{false}
 use native.Mathlib.Omega.{arith}

@@ -1,4 +1,3 @@
-use lib.ListN.{length}
 use Rattle.halfedges.proofs.Checks.{Clean}
 use Rattle.points.specs.Operations.{out_of_range}
 use Rattle.cage.proofs.find_out_of_range.Given as goal

@@ -1,6 +1,5 @@
 -- `clear_borders` has cleared the ends of the halfedges passed.
-use borrow.Author.Rules.{rules}
-use mathlib.Core.Path.{◌≡◌, refl}
+use mathlib.Core.Path.{◌≡◌}
 use native.Mathlib.Omega.{arith}
 use lib.ListN.{length}
 use Rattle.valences.proofs.Counted.{cleared_none, cleared_on}

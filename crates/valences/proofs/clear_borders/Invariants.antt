@@ -1,5 +1,3 @@
-use mathlib.Core.Path.{◌≡◌}
-use lib.ListN.{length}
 use Rattle.valences.specs.Internal.Inside.{Cleared}
 use Rattle.valences.proofs.clear_borders.Given as goal
 
