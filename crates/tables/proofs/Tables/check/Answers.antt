@@ -1,8 +1,8 @@
--- `check_tables` answers by its checks.
+-- `check` answers by its checks.
 use Rattle.halfedges.proofs.Told.{handed_on}
 use Rattle.halfedges.proofs.Checks.{said_refused, said_done}
 use Rattle.tables.specs.Check.{check_tables}
-use Rattle.tables.proofs.check.check_tables.Goals as goal
+use Rattle.tables.proofs.Tables.check.Goals as goal
 
 pub returns-in_err-check_for_depth : goal.returns-in_err-check_for_depth
 unfolding check_tables

@@ -5,7 +5,7 @@ use Rattle.halfedges.specs.Refusals.{FAN}
 use Rattle.halfedges.proofs.Told.{handed_on}
 use Rattle.halfedges.proofs.Checks.{stops_before, passes_before, given_alone}
 use Rattle.tables.proofs.TableChecks.{for_places, for_fans, in_parts}
-use Rattle.tables.proofs.check.check_for_depth.Goals as goal
+use Rattle.tables.proofs.Tables.check_for_depth.Goals as goal
 
 pub returns-in_err-check_pairs : goal.returns-in_err-check_pairs
 returns-in_err-check_pairs c = rw (handed_on c.from_residual.ensures, in_parts _ _ _) (stops_before _ _ _ c.in_err-check_pairs.ensures)

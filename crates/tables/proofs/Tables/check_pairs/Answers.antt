@@ -1,7 +1,7 @@
 -- `check_pairs` goes through checks 1 and 2, and then rule 3.
 use mathlib.Core.Path.{sym, ◌∙◌}
 use Rattle.tables.proofs.TableChecks.{pairs_shape, pairs_limit, pairs_twins}
-use Rattle.tables.proofs.check.check_pairs.Goals as goal
+use Rattle.tables.proofs.Tables.check_pairs.Goals as goal
 
 pub returns-then-misshapen : goal.returns-then-misshapen
 returns-then-misshapen c = pairs_shape _ _ _ (sym c.misshapen.ensures ∙ c.if-misshapen.true)

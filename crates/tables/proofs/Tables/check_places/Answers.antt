@@ -4,7 +4,7 @@ use native.Mathlib.Omega.{arith}
 use Rattle.halfedges.specs.Refusals.{EDGE}
 use Rattle.halfedges.proofs.Told.{handed_on}
 use Rattle.halfedges.proofs.Checks.{stops, passes, given_alone}
-use Rattle.tables.proofs.check.check_places.Goals as goal
+use Rattle.tables.proofs.Tables.check_places.Goals as goal
 
 pub returns-in_err-check_vertices : goal.returns-in_err-check_vertices
 returns-in_err-check_vertices c = rw (handed_on c.from_residual.ensures) (stops _ _ c.in_err-check_vertices.ensures)
