@@ -1,7 +1,6 @@
 -- An accepted question is answered by its counts, any other by its refusal.
 use mathlib.Core.Path.{refl}
 use native.Mathlib.Omega.{arith}
-use borrow.Author.Rules.{rules}
 use Rattle.text.proofs.Replying.{replied_within, replied_as}
 use Rattle.counter.proofs.Outcomes.{refused_reply, answered_reply, depth_kept}
 use Rattle.counter.proofs.counting.put_counting.Goals as goal
