@@ -15,13 +15,13 @@ module _ (c : In-loop-item) where
   group = get_or c.args.groups.now c.loop-item.item 0
 
   small : group < bound
-  small = c.requires.keyed.0.group_below c.loop-item.item c.loop-item-test.true
+  small = c.requires.keyed.0.group_below c.loop-item.item (omega arith)
 
   inside : group < length c.loop-item.heads
   inside = omega (arith, small, c.requires.keyed.1, c.loop-item.invariant.0)
 
 pub loop-item-init : goal.loop-item-init
-loop-item-init c = (search rules, search rules, search rules, chained_none _ _ _ c.requires.by_index)
+loop-item-init c = (search rules, search rules, chained_none _ _ _ c.requires.by_index)
 
 pub overflow_cast-group : goal.overflow_cast-group
 overflow_cast-group c = omega (arith, small (goal.at.overflow_cast-group c).In-loop-item)
@@ -41,7 +41,7 @@ bounds-heads-group-in-loop-item c = inside (goal.at.bounds-heads-group-in-loop-i
 pub loop-item-preserved : goal.loop-item-preserved
 loop-item-preserved c =
     let i = c.loop-item in
-    (simp length-set i.invariant.0, simp length-set i.invariant.1, omega arith, chained_on _ _ _ _ (inside (goal.at.loop-item-preserved c).In-loop-item) (omega arith) i.invariant.3)
+    (simp length-set i.invariant.0, simp length-set i.invariant.1, chained_on _ _ _ _ (inside (goal.at.loop-item-preserved c).In-loop-item) (omega arith) i.invariant.2)
 
 pub shape_of-heads : goal.shape_of-heads
 shape_of-heads c = c.loop-item.invariant.0
@@ -57,5 +57,5 @@ returns c =
       keyed = c.requires.keyed.0;
       buckets = i.invariant.0 ∙ c.requires.keyed.1;
       room = omega (arith, c.requires.keyed.2, i.invariant.1);
-      chained = rw (← e) i.invariant.3;
+      chained = rw (← e) i.invariant.2;
     }

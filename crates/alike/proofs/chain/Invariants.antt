@@ -1,4 +1,3 @@
-use Prim.Native.Nat.{◌-◌, ◌≤◌}
 use mathlib.Core.Path.{◌≡◌}
 use lib.ListN.{length}
 use Rattle.alike.specs.Internal.Alike.{Chained}
@@ -6,7 +5,4 @@ use Rattle.alike.proofs.chain.Given as goal
 
 abbrev pub invariant-loop-item : goal.invariant-loop-item
 invariant-loop-item l =
-    (length l.heads ≡ length l.initial.heads) × (length l.before ≡ length l.initial.before) × (l.item ≤ length l.groups) × Chained l.groups l.item l.heads l.before
-
-abbrev pub decreases-loop-item : goal.decreases-loop-item
-decreases-loop-item l = length l.groups - l.item
+    (length l.heads ≡ length l.initial.heads) × (length l.before ≡ length l.initial.before) × Chained l.groups l.item l.heads l.before

@@ -16,10 +16,10 @@ module _ (i : In-loop-group) where
   start = (goal.at.In-loop-group i).Start
 
   followed : Chain start.args.groups.now start.args.labels.now start.args.before.now i.loop-group.group (get_or start.args.heads.now i.loop-group.group 0)
-  followed = chain_of start.requires.ready i.loop-group.group i.loop-group-test.true
+  followed = chain_of start.requires.ready i.loop-group.group (omega arith)
 
 pub loop-group-init : goal.loop-group-init
-loop-group-init c = (search rules, search rules, search rules, record { each = λ k l b. absurd (not-suc-le-zero b) })
+loop-group-init c = (search rules, search rules, record { each = λ k l b. absurd (not-suc-le-zero b) })
 
 pub overflow_cast-head : goal.overflow_cast-head
 overflow_cast-head c = omega (arith, head_below (followed (goal.at.overflow_cast-head c).In-loop-group), (start (goal.at.overflow_cast-head c).In-loop-group).requires.ready.keyed.few)
@@ -31,19 +31,12 @@ pub tell-requires : goal.tell-requires
 tell-requires c =
     record { chain = (followed (goal.at.tell-requires c).In-loop-group, c.mark.ensures); bound_in_bounds = (omega (arith, c.mark.auto.marks, (start (goal.at.tell-requires c).In-loop-group).requires.bound_in_bounds.0, c.loop-group.invariant.0), omega (arith, (start (goal.at.tell-requires c).In-loop-group).requires.bound_in_bounds.1, c.loop-group.invariant.1)) }
 
-pub overflow_add-group : goal.overflow_add-group
-overflow_add-group c = omega (arith, c.loop-group.invariant.2)
-
-pub loop-group-smaller : goal.loop-group-smaller
-loop-group-smaller c = omega (arith, c.loop-group-test.true)
-
 pub loop-group-preserved : goal.loop-group-preserved
 loop-group-preserved c =
     let v = c.loop-group.invariant in (
       c.mark.auto.marks ∙ v.0,
       c.tell.auto.first ∙ v.1,
-      omega (arith, c.loop-group-test.true, (start (goal.at.loop-group-preserved c).In-loop-group).requires.ready.buckets),
-      groups_on _ _ _ _ _ c.tell.ensures v.3,
+      groups_on _ _ _ _ _ c.tell.ensures v.2,
     )
 
 pub shape_of-marks : goal.shape_of-marks
@@ -55,4 +48,4 @@ shape_of-first c = c.loop-group.invariant.1
 pub returns : goal.returns
 returns c =
     let i = c.loop-group in
-    record { each = λ k l. i.invariant.3.each k l (omega (arith, c.requires.ready.keyed.group_below k l, c.requires.ready.buckets, c.loop-group-test.false)) }
+    record { each = λ k l. i.invariant.2.each k l (omega (arith, c.requires.ready.keyed.group_below k l, c.requires.ready.buckets)) }
