@@ -85,12 +85,6 @@ module _ {t : HalfedgeTable} {at : ℕ} {twin : List ℕ} (s : Housed t at twin)
       let v : cell twin (at + h) ≡ 3 * j + 1 = subst (λ k. cell twin (at + k) ≡ 3 * j + 1) (sym e) (d.middle j (omega (arith, d.four))) in
       rw v (simp (ne_eqb (3 * j + 1) marker (λ m. omega (arith, m, s.small.halfedges)), lt-ltb (3 * j + 1) h (omega (arith, d.four))))
 
--- the loop over the corner triangles has come to the j-th
-pub record Cornered (n at : ℕ) (xs ys : List ℕ) (j : ℕ) : Type 0 where
-  pub filled : TwinsFilled n at xs ys (3 * j)
-  pub first : j % 3 ≡ 0
-  pub within : j ≤ n / 4
-
 module _ {t : HalfedgeTable} {at : ℕ} {xs : List ℕ} (pre : Housed t at xs × SmallTwins t at xs × Descended t at xs) where
   abbrev d : Descended t at xs
   d = pre.2
@@ -120,7 +114,7 @@ module _ {t : HalfedgeTable} {at : ℕ} {xs : List ℕ} (pre : Housed t at xs ×
         )
 
     pub corner_on : {zs : List ℕ} {k : ℕ} → zs ≡ with_split ys at n (3 * j) → k ≡ j + 1 → TwinsFilled n at xs zs (3 * k)
-    corner_on {zs} {k} e o = subst (TwinsFilled n at xs zs) (let r : 3 * j + 3 ≡ 3 * k = omega (arith, o) in r) (twins_on f (omega arith) refl refl e)
+    corner_on e o = twins_on f (omega arith) refl refl e (omega (arith, o))
 
   pub middle_there : {ys : List ℕ} {j : ℕ} → TwinsFilled n at xs ys (3 * q + j) → j < q → Fits n at (3 * q + j) ys × MiddleTriangle (cells_at ys at (3 * q + j)) (3 * j + 1)
   middle_there {ys} {j} f l =

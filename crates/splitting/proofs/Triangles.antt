@@ -168,8 +168,9 @@ module _ {n at h : ℕ} {new : ℕ → ℕ} {xs ys : List ℕ} (f : Filled n at 
     filled_all : (P : ℕ → Type 0) → ((k : ℕ) → k < n → P (cell xs (at + k))) → {c : Three} → c ≡ cells_at ys at h → EachOf P c
     filled_all P all e = all_three P all filled_three.0 (e ∙ filled-trio)
 
-    filled_on : {zs : List ℕ} {r : Split} → zs ≡ set_split ys at n h r → r ≡ split_by new n h → Filled n at new xs zs (h + 3)
-    filled_on e q =
+    filled_on : {zs : List ℕ} {r : Split} {k : ℕ} → zs ≡ set_split ys at n h r → r ≡ split_by new n h → k ≡ h + 3 → Filled n at new xs zs k
+    filled_on e q o =
+        rw o
         record {
           small = f.small;
           whole = f.whole;
@@ -184,7 +185,7 @@ module _ {n at h : ℕ} {xs ys : List ℕ} (f : TwinsFilled n at xs ys h) where
   pub twins_ready : {c : Three} → ((k : ℕ) → k < n → SmallTwin (cell xs (at + k))) → h < n → c ≡ cells_at ys at h → EachOf SmallTwin c × n ≤ most_small × h ≤ most_small
   twins_ready small l e = (filled_all f l SmallTwin small e, f.small, omega (arith, f.small))
 
-  pub twins_on : {zs : List ℕ} {r : Split} {c : Three} → h < n → c ≡ cells_at ys at h → r ≡ split_twins c n h → zs ≡ set_split ys at n h r → TwinsFilled n at xs zs (h + 3)
+  pub twins_on : {zs : List ℕ} {r : Split} {c : Three} → h < n → c ≡ cells_at ys at h → r ≡ split_twins c n h → zs ≡ set_split ys at n h r → {k : ℕ} → k ≡ h + 3 → TwinsFilled n at xs zs k
   twins_on l e q p =
       filled_on f l p
       (q ∙ ap (λ c. split_twins c n h) (e ∙ filled-trio f l) ∙ sym (twin_split at n h f.first (filled_three f l).0 xs (omega (arith, f.room))))
@@ -198,7 +199,7 @@ module _ {t : HalfedgeTable} {at : ℕ} {other : List ℕ} (o : Housed t at othe
     pub verts_ready : {c : Three} → SmallEdges t at other → h < t.halfedges → c ≡ cells_at other at h → EachOf SmallEdge c × t.vertices ≤ most_small
     verts_ready small l e = (all_three SmallEdge small (filled_three f l).0 e, o.small.vertices)
 
-    pub verts_on : {zs : List ℕ} {r : Split} {c d : Three} → h < t.halfedges → c ≡ cells_at ys at h → d ≡ cells_at other at h → r ≡ split_verts c d t.vertices → zs ≡ set_split ys at t.halfedges h r → VertsFilled t.halfedges t.vertices at xs other zs (h + 3)
+    pub verts_on : {zs : List ℕ} {r : Split} {c d : Three} → h < t.halfedges → c ≡ cells_at ys at h → d ≡ cells_at other at h → r ≡ split_verts c d t.vertices → zs ≡ set_split ys at t.halfedges h r → {k : ℕ} → k ≡ h + 3 → VertsFilled t.halfedges t.vertices at xs other zs k
     verts_on l e d q p =
         filled_on f l p
         (q ∙ ap₂ (λ c d. split_verts c d t.vertices) (e ∙ filled-trio f l) d
@@ -212,7 +213,7 @@ module _ {t : HalfedgeTable} {at : ℕ} {other : List ℕ} (o : Housed t at othe
     pub edges_ready : SmallEdges t at xs → h < t.halfedges → (Fits t.halfedges at h ys × t.edges ≤ most_small) × EachOf SmallEdge (cells_at ys at h)
     edges_ready small l = ((filled_fits f l, o.small.edges), filled_all f l SmallEdge small refl)
 
-    pub edges_on : {zs : List ℕ} {up : Above} → h < t.halfedges → up ≡ above_three other at h → zs ≡ with_split_edges ys at t h up → EdgesFilled t.halfedges t.edges at xs other zs (h + 3)
+    pub edges_on : {zs : List ℕ} {up : Above} → h < t.halfedges → up ≡ above_three other at h → zs ≡ with_split_edges ys at t h up → {k : ℕ} → k ≡ h + 3 → EdgesFilled t.halfedges t.edges at xs other zs k
     edges_on l p e =
         filled_on f l e
         (ap₂ (λ c up. split_edges c up t.edges h) (filled-trio f l) p
