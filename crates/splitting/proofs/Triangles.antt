@@ -196,9 +196,6 @@ module _ {n at h : ℕ} {xs ys : List ℕ} (f : TwinsFilled n at xs ys h) where
 
 module _ {t : HalfedgeTable} {at : ℕ} {other : List ℕ} (o : Housed t at other) {h : ℕ} {xs ys : List ℕ} where
   module _ (f : VertsFilled t.halfedges t.vertices at xs other ys h) where
-    pub verts_ready : {c : Three} → SmallEdges t at other → h < t.halfedges → c ≡ cells_at other at h → EachOf SmallEdge c × t.vertices ≤ most_small
-    verts_ready small l e = (all_three SmallEdge small (filled_three f l).0 e, o.small.vertices)
-
     pub verts_on : {zs : List ℕ} {r : Split} {c d : Three} → h < t.halfedges → c ≡ cells_at ys at h → d ≡ cells_at other at h → r ≡ split_verts c d t.vertices → zs ≡ set_split ys at t.halfedges h r → {k : ℕ} → k ≡ h + 3 → VertsFilled t.halfedges t.vertices at xs other zs k
     verts_on l e d q p =
         filled_on f l p
@@ -210,8 +207,8 @@ module _ {t : HalfedgeTable} {at : ℕ} {other : List ℕ} (o : Housed t at othe
     verts_done l = filled_done f l (long_part f)
 
   module _ (f : EdgesFilled t.halfedges t.edges at xs other ys h) where
-    pub edges_ready : SmallEdges t at xs → h < t.halfedges → (Fits t.halfedges at h ys × t.edges ≤ most_small) × EachOf SmallEdge (cells_at ys at h)
-    edges_ready small l = ((filled_fits f l, o.small.edges), filled_all f l SmallEdge small refl)
+    pub edges_ready : SmallEdges t at xs → h < t.halfedges → EachOf SmallEdge (cells_at ys at h)
+    edges_ready small l = filled_all f l SmallEdge small refl
 
     pub edges_on : {zs : List ℕ} {up : Above} → h < t.halfedges → up ≡ above_three other at h → zs ≡ with_split_edges ys at t h up → {k : ℕ} → k ≡ h + 3 → EdgesFilled t.halfedges t.edges at xs other zs k
     edges_on l p e =

@@ -9,7 +9,7 @@ pub loop-corner-init : goal.loop-corner-init
 loop-corner-init c = filled-start c.requires.housed.0
 
 pub put_edges-requires-clause-each_of : goal.put_edges-requires-clause-each_of
-put_edges-requires-clause-each_of c = (edges_ready c.requires.housed.1 c.loop-corner.invariant c.requires.small_edges.0 (omega arith)).1
+put_edges-requires-clause-each_of c = edges_ready c.requires.housed.1 c.loop-corner.invariant c.requires.small_edges.0 (omega arith)
 
 pub loop-corner-preserved : goal.loop-corner-preserved
 loop-corner-preserved c =
@@ -17,7 +17,7 @@ loop-corner-preserved c =
     edges_on c.requires.housed.1 c.loop-corner.invariant (omega arith) (λ j. (c.above_at-a.ensures j, second j, c.above_at-c.ensures j)) c.put_edges.ensures (omega arith)
 
 pub put_edges-requires-in-loop-middle-clause-each_of : goal.put_edges-requires-in-loop-middle-clause-each_of
-put_edges-requires-in-loop-middle-clause-each_of c = (edges_ready c.requires.housed.1 c.loop-middle.invariant c.requires.small_edges.0 (omega arith)).1
+put_edges-requires-in-loop-middle-clause-each_of c = edges_ready c.requires.housed.1 c.loop-middle.invariant c.requires.small_edges.0 (omega arith)
 
 pub loop-middle-preserved : goal.loop-middle-preserved
 loop-middle-preserved c =

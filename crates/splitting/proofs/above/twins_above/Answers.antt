@@ -41,22 +41,22 @@ loop-triangle-init c = filled-start c.requires.0
 
 pub put_corner-requires-clause-corner_triangle : goal.put_corner-requires-clause-corner_triangle
 put_corner-requires-clause-corner_triangle c =
-    (corner_there c.requires c.loop-triangle.invariant (omega arith) _ refl (round (goal.at.put_corner-requires-clause-corner_triangle c).In-loop-triangle).0).1
+    corner_there c.requires c.loop-triangle.invariant (omega arith) _ refl (round (goal.at.put_corner-requires-clause-corner_triangle c).In-loop-triangle).0
 
 pub put_corner-requires-in-loop-triangle-clause-corner_triangle : goal.put_corner-requires-in-loop-triangle-clause-corner_triangle
 put_corner-requires-in-loop-triangle-clause-corner_triangle c =
-    (corner_there c.requires (one (goal.at.put_corner-requires-in-loop-triangle-clause-corner_triangle c).After-put_corner) (omega arith) _ (omega arith) (round (goal.at.put_corner-requires-in-loop-triangle-clause-corner_triangle c).In-loop-triangle).1).1
+    corner_there c.requires (one (goal.at.put_corner-requires-in-loop-triangle-clause-corner_triangle c).After-put_corner) (omega arith) _ (omega arith) (round (goal.at.put_corner-requires-in-loop-triangle-clause-corner_triangle c).In-loop-triangle).1
 
 pub put_corner-requires-in-loop-triangle-2-clause-corner_triangle : goal.put_corner-requires-in-loop-triangle-2-clause-corner_triangle
 put_corner-requires-in-loop-triangle-2-clause-corner_triangle c =
-    (corner_there c.requires (two (goal.at.put_corner-requires-in-loop-triangle-2-clause-corner_triangle c).After-put_corner-in-loop-triangle) (omega arith) _ (omega arith) (round (goal.at.put_corner-requires-in-loop-triangle-2-clause-corner_triangle c).In-loop-triangle).2).1
+    corner_there c.requires (two (goal.at.put_corner-requires-in-loop-triangle-2-clause-corner_triangle c).After-put_corner-in-loop-triangle) (omega arith) _ (omega arith) (round (goal.at.put_corner-requires-in-loop-triangle-2-clause-corner_triangle c).In-loop-triangle).2
 
 pub loop-triangle-preserved : goal.loop-triangle-preserved
 loop-triangle-preserved c =
     corner_on c.requires (two (goal.at.loop-triangle-preserved c).After-put_corner-in-loop-triangle) (omega arith) c.put_corner-in-loop-triangle-2.ensures (omega arith)
 
 pub put_middle-requires-clause-middle_triangle : goal.put_middle-requires-clause-middle_triangle
-put_middle-requires-clause-middle_triangle c = (middle_there c.requires c.loop-triangle-2.invariant (omega arith)).1
+put_middle-requires-clause-middle_triangle c = middle_there c.requires c.loop-triangle-2.invariant (omega arith)
 
 pub loop-triangle-2-preserved : goal.loop-triangle-2-preserved
 loop-triangle-2-preserved c = twins_on c.loop-triangle-2.invariant (omega arith) refl refl c.put_middle.ensures (omega arith)
