@@ -1,7 +1,6 @@
 -- `chain` chains one item after the other.
 use borrow.Author.Rules.{rules}
 use Prim.Native.Nat.{ℕ, ◌<◌}
-use mathlib.Core.Path.{◌≡◌, ◌∙◌}
 use native.Mathlib.Omega.{arith}
 use lib.ListN.{length, length-set, get_or}
 use Rattle.alike.specs.Internal.Alike.{bound}
@@ -23,39 +22,7 @@ module _ (c : In-loop-item) where
 pub loop-item-init : goal.loop-item-init
 loop-item-init c = (search rules, search rules, chained_none _ _ _ c.requires.by_index)
 
-pub overflow_cast-group : goal.overflow_cast-group
-overflow_cast-group c = omega (arith, small (goal.at.overflow_cast-group c).In-loop-item)
-
-pub offset_bounds-heads-group : goal.offset_bounds-heads-group
-offset_bounds-heads-group c = omega (arith, small (goal.at.offset_bounds-heads-group c).In-loop-item)
-
-pub bounds-heads-group : goal.bounds-heads-group
-bounds-heads-group c = inside (goal.at.bounds-heads-group c).In-loop-item
-
-pub offset_bounds-heads-group-in-loop-item : goal.offset_bounds-heads-group-in-loop-item
-offset_bounds-heads-group-in-loop-item c = omega (arith, small (goal.at.offset_bounds-heads-group-in-loop-item c).In-loop-item)
-
-pub bounds-heads-group-in-loop-item : goal.bounds-heads-group-in-loop-item
-bounds-heads-group-in-loop-item c = inside (goal.at.bounds-heads-group-in-loop-item c).In-loop-item
-
 pub loop-item-preserved : goal.loop-item-preserved
 loop-item-preserved c =
     let i = c.loop-item in
     (simp length-set i.invariant.0, simp length-set i.invariant.1, chained_on _ _ _ _ (inside (goal.at.loop-item-preserved c).In-loop-item) (omega arith) i.invariant.2)
-
-pub shape_of-heads : goal.shape_of-heads
-shape_of-heads c = c.loop-item.invariant.0
-
-pub shape_of-before : goal.shape_of-before
-shape_of-before c = c.loop-item.invariant.1
-
-pub returns : goal.returns
-returns c =
-    let i = c.loop-item in
-    let e : i.item ≡ length c.args.groups.now = omega arith in
-    record {
-      keyed = c.requires.keyed.0;
-      buckets = i.invariant.0 ∙ c.requires.keyed.1;
-      room = omega (arith, c.requires.keyed.2, i.invariant.1);
-      chained = rw (← e) i.invariant.2;
-    }

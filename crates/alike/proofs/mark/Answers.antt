@@ -32,33 +32,6 @@ module _ (i : In-loop-end) where
 pub loop-end-init : goal.loop-end-init
 loop-end-init c = (search rules, at_head c.requires.0, lower_start _ _ c.requires.0 _)
 
-pub offset_bounds-labels-item : goal.offset_bounds-labels-item
-offset_bounds-labels-item c = omega (arith, below c, (start c).requires.0.keyed.few)
-
-pub bounds-labels-item : goal.bounds-labels-item
-bounds-labels-item c = omega (arith, below (goal.at.bounds-labels-item c).In-loop-end, (start (goal.at.bounds-labels-item c).In-loop-end).requires.0.keyed.long)
-
-pub overflow_cast-label : goal.overflow_cast-label
-overflow_cast-label c = omega (arith, small (goal.at.overflow_cast-label c).In-loop-end)
-
-pub overflow_cast-marks : goal.overflow_cast-marks
-overflow_cast-marks c = omega (arith, below (goal.at.overflow_cast-marks c).In-loop-end, (start (goal.at.overflow_cast-marks c).In-loop-end).requires.0.keyed.few)
-
-pub offset_bounds-marks-label : goal.offset_bounds-marks-label
-offset_bounds-marks-label c = omega (arith, small (goal.at.offset_bounds-marks-label c).In-loop-end)
-
-pub bounds-marks-label : goal.bounds-marks-label
-bounds-marks-label c = inside (goal.at.bounds-marks-label c).In-loop-end
-
-pub offset_bounds-before-item : goal.offset_bounds-before-item
-offset_bounds-before-item c = omega (arith, below (goal.at.offset_bounds-before-item c).In-loop-end, (start (goal.at.offset_bounds-before-item c).In-loop-end).requires.0.keyed.few)
-
-pub bounds-before-item : goal.bounds-before-item
-bounds-before-item c = omega (arith, below (goal.at.bounds-before-item c).In-loop-end, (start (goal.at.bounds-before-item c).In-loop-end).requires.0.room)
-
-pub overflow_cast-end : goal.overflow_cast-end
-overflow_cast-end c = omega (arith, falls (goal.at.overflow_cast-end c).In-loop-end, c.loop-end.invariant.1.below, (start (goal.at.overflow_cast-end c).In-loop-end).requires.0.keyed.few)
-
 pub loop-end-smaller : goal.loop-end-smaller
 loop-end-smaller c = falls (goal.at.loop-end-smaller c).In-loop-end
 
@@ -68,9 +41,6 @@ loop-end-preserved c =
     let v = c.loop-end.invariant in
     let n = c.loop-end-test.true in
     (simp length-set v.0, at_next s.requires.0 v.1 n, lower_on _ _ s.requires.0 v.1 n _ (inside (goal.at.loop-end-preserved c).In-loop-end) v.2)
-
-pub shape_of-marks : goal.shape_of-marks
-shape_of-marks c = c.loop-end.invariant.0
 
 pub returns : goal.returns
 returns c =
