@@ -1,5 +1,5 @@
 -- `narrow` splits off the last digit: what stands before it is narrowed, and the first places are found by both.
-use Prim.Native.Nat.{ℕ, ◌/◌, ◌≤◌, ◌<◌}
+use Prim.Native.Nat.{ℕ, ◌≤◌, ◌<◌}
 use mathlib.Core.Path.{sym, ◌∙◌}
 use mathlib.Core.List.{List}
 use native.Mathlib.Omega.{arith}
@@ -27,9 +27,6 @@ module _ (c : After-split) where
 
   low_long : length numbers ≤ length c.split.new.low
   low_long = omega (arith, c.split.auto.low, few)
-
-  upper_small : (k : ℕ) → k < length numbers → get_or c.split.new.upper k 0 / bound < bound
-  upper_small k l = omega (arith, c.split.ensures.before k l, c.shared_slice_known-1.given k)
 
 -- once what stands before the last digit is narrowed
 module _ (c : After-narrow_upper) where
