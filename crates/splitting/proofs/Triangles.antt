@@ -16,7 +16,7 @@ use Rattle.laws.proofs.Parts.{length_part, part_at}
 use Rattle.halfedges.specs.Cage.{PREV, cell, above}
 use Rattle.halfedges.proofs.Triangle.{prev_first, prev_other}
 use Rattle.splitting.specs.NextLevel.{new_twin, new_edge, new_vert, next_twins, next_edges, next_verts}
-use Rattle.splitting.specs.Internal.InPlace.{most_small, trio, cells_at, EachOf, twin_halves, edge_halves, joined, join_twins, split_twins, split_verts, split_edges, set_split, with_split_edges, with_next, with_next_verts, with_next_edges, SmallTwin, SmallEdge, SmallEdges, Fits, Housed}
+use Rattle.splitting.specs.Internal.InPlace.{most_small, trio, cells_at, EachOf, twin_halves, edge_halves, joined, join_twins, split_twins, split_verts, split_edges, set_split, with_split_edges, with_next, with_next_verts, with_next_edges, SmallTwin, SmallEdge, SmallEdges, Housed}
 use Rattle.tables.specs.Internal.Above.{is_above}
 use Rattle.splitting.proofs.Rows.{at_corner, at_across, at_back, at_middle}
 use Rattle.splitting.proofs.Fill.{Going, split_by, going_start, going_on, going_before, going_done}
@@ -138,9 +138,6 @@ filled-start {t} {at} {xs} {new} s =
     record { small = s.small.halfedges; whole = s.whole; room = room; going = going_start xs at t.halfedges new room; first = omega arith; within = omega arith }
 
 module _ {n at h : ℕ} {new : ℕ → ℕ} {xs ys : List ℕ} (f : Filled n at new xs ys h) where
-  pub filled_long : length ys ≡ length xs
-  filled_long = f.going.long
-
   filled_done : {m : ℕ} → n ≤ h → m ≡ n → ys ≡ with_next xs at n (tabulate (4 * m) new)
   filled_done l e =
       let d : at + n + 4 * n ≡ at + 5 * n = omega arith in
@@ -160,9 +157,6 @@ module _ {n at h : ℕ} {new : ℕ → ℕ} {xs ys : List ℕ} (f : Filled n at 
 
     filled-trio : cells_at ys at h ≡ cells_at xs at h
     filled-trio = each n h f.first filled_three.0 (λ k. cell ys (at + k)) (λ k. cell xs (at + k)) (λ k m. filled_before (at + k) (omega arith))
-
-    pub filled_fits : Fits n at h ys
-    filled_fits = record { small = f.small; within = filled_three.0; room = omega (arith, f.room, filled_long) }
 
     -- what holds of the level's cells holds of the triangle's
     filled_all : (P : ℕ → Type 0) → ((k : ℕ) → k < n → P (cell xs (at + k))) → {c : Three} → c ≡ cells_at ys at h → EachOf P c
