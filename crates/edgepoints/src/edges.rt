@@ -56,7 +56,7 @@ fn start_edge(points: &mut [i32], to: usize, halfedge: Halfedge)
     let x = started_at(halfedge, 0);
     let y = started_at(halfedge, 1);
     let z = started_at(halfedge, 2);
-    put_point(&mut *points, to, x, y, z);
+    put_point(points, to, x, y, z);
 }
 
 // Coordinate k of the point of an inner edge, which the higher halfedge makes of what the lower one left.
@@ -73,10 +73,10 @@ fn finish_edge(points: &mut [i32], to: usize, halfedge: Halfedge)
     requires { AsksFinish halfedge to points.old }
     ensures { points.new ≡ put to (finish halfedge points.old to) points.old }
 {
-    let x = finished_at(&*points, to, halfedge, 0);
-    let y = finished_at(&*points, to, halfedge, 1);
-    let z = finished_at(&*points, to, halfedge, 2);
-    put_point(&mut *points, to, x, y, z);
+    let x = finished_at(points, to, halfedge, 0);
+    let y = finished_at(points, to, halfedge, 1);
+    let z = finished_at(points, to, halfedge, 2);
+    put_point(points, to, x, y, z);
 }
 
 // Coordinate k of the middle between a corner and its neighbour.
@@ -97,7 +97,7 @@ pub fn put_middle(points: &mut [i32], to: usize, corner: Corner, neighbour: Corn
     let x = middle_at(corner, neighbour, 0);
     let y = middle_at(corner, neighbour, 1);
     let z = middle_at(corner, neighbour, 2);
-    put_point(&mut *points, to, x, y, z);
+    put_point(points, to, x, y, z);
 }
 
 // Coordinate k of the new place of a vertex with two creases, as those on a border, that meets a neighbour.
@@ -116,10 +116,10 @@ pub fn meet_one(points: &mut [i32], vertices: usize, corner: Corner, neighbour: 
     ensures { points.new ≡ meet vertices corner neighbour points.old }
 {
     let to = 3 * vertices + 3 * corner.vertex as usize;
-    let x = met_at(&*points, to, corner, neighbour, 0);
-    let y = met_at(&*points, to, corner, neighbour, 1);
-    let z = met_at(&*points, to, corner, neighbour, 2);
-    put_point(&mut *points, to, x, y, z);
+    let x = met_at(points, to, corner, neighbour, 0);
+    let y = met_at(points, to, corner, neighbour, 1);
+    let z = met_at(points, to, corner, neighbour, 2);
+    put_point(points, to, x, y, z);
 }
 
 // The part of a halfedge without twin.
@@ -130,13 +130,13 @@ fn put_border(points: &mut [i32], vertices: usize, halfedge: Halfedge)
     let a = halfedge.from;
     let b = halfedge.to;
     put_middle(
-        &mut *points,
+        points,
         6 * vertices + 3 * halfedge.edge as usize,
         a,
         b,
     );
-    meet_one(&mut *points, vertices, a, b);
-    meet_one(&mut *points, vertices, b, a);
+    meet_one(points, vertices, a, b);
+    meet_one(points, vertices, b, a);
 }
 
 // The part of a halfedge that has a twin.
@@ -146,10 +146,10 @@ fn step_inner(points: &mut [i32], vertices: usize, halfedge: Halfedge)
 {
     let to = 6 * vertices + 3 * halfedge.edge as usize;
     if (halfedge.twin as usize) < halfedge.number {
-        finish_edge(&mut *points, to, halfedge);
+        finish_edge(points, to, halfedge);
         return;
     }
-    start_edge(&mut *points, to, halfedge);
+    start_edge(points, to, halfedge);
 }
 
 // The part of any halfedge.
@@ -158,10 +158,10 @@ fn step_edge(points: &mut [i32], vertices: usize, halfedge: Halfedge)
     ensures { points.new ≡ step_edge vertices halfedge points.old }
 {
     if halfedge.twin == HalfedgeTable::NO_TWIN {
-        put_border(&mut *points, vertices, halfedge);
+        put_border(points, vertices, halfedge);
         return;
     }
-    step_inner(&mut *points, vertices, halfedge);
+    step_inner(points, vertices, halfedge);
 }
 
 // The corner that a halfedge leaves.
@@ -228,9 +228,9 @@ fn write_any(points: &mut [i32], vertices: usize, triangle: Triangle)
     requires { AskedInTurn (Asks vertices) (step_edge vertices) triangle points.old }
     ensures { points.new ≡ in_turn (step_edge vertices) triangle points.old }
 {
-    step_edge(&mut *points, vertices, triangle.first);
-    step_edge(&mut *points, vertices, triangle.second);
-    step_edge(&mut *points, vertices, triangle.third);
+    step_edge(points, vertices, triangle.first);
+    step_edge(points, vertices, triangle.second);
+    step_edge(points, vertices, triangle.third);
 }
 
 // A triangle's part in the points of its edges, where none of them is a border.
@@ -238,9 +238,9 @@ fn write_inner(points: &mut [i32], vertices: usize, triangle: Triangle)
     requires { AskedInTurn (AsksInner vertices) (inner_edge vertices) triangle points.old }
     ensures { points.new ≡ in_turn (inner_edge vertices) triangle points.old }
 {
-    step_inner(&mut *points, vertices, triangle.first);
-    step_inner(&mut *points, vertices, triangle.second);
-    step_inner(&mut *points, vertices, triangle.third);
+    step_inner(points, vertices, triangle.first);
+    step_inner(points, vertices, triangle.second);
+    step_inner(points, vertices, triangle.third);
 }
 
 // Whether one of a triangle's halfedges has no twin.
@@ -272,12 +272,12 @@ fn write_triangle(
     ensures { points.new ≡ in_turn (step_edge vertices)
         (triangle_of twin.now vert.now edge.now points.old triangle) points.old }
 {
-    let read = read_triangle(twin, vert, edge, &*points, triangle);
+    let read = read_triangle(twin, vert, edge, points, triangle);
     if border_among(read) {
-        write_any(&mut *points, vertices, read);
+        write_any(points, vertices, read);
         return;
     }
-    write_inner(&mut *points, vertices, read);
+    write_inner(points, vertices, read);
 }
 
 // The points of all edges, and V.2 at the border: the part of every halfedge, triangle by triangle.
@@ -288,10 +288,7 @@ pub fn write_edges(twin: &[u32], vert: &[u32], edge: &[u32], points: &mut [i32],
     ensures { points.new ≡ steps (length vert.now)
         (put_edge twin.now vert.now edge.now vertices points.old) points.old }
 {
-    let triangles = vert.len() / 3;
-    let mut triangle = 0;
-    while triangle < triangles {
-        write_triangle(twin, vert, edge, &mut *points, vertices, triangle);
-        triangle += 1;
+    for triangle in 0..vert.len() / 3 {
+        write_triangle(twin, vert, edge, points, vertices, triangle);
     }
 }

@@ -41,13 +41,10 @@ pub fn settle_vertices(weight: Weight, own: &[u32], points: &mut [i32], vertices
 {
     let cells = 3 * vertices;
     let own_cells = 3 * own.len();
-    let mut i = 0;
-    while i < own_cells {
-        settle_own(weight, &mut *points, cells, i, own[i / 3]);
-        i += 1;
+    for i in 0..own_cells {
+        settle_own(weight, points, cells, i, own[i / 3]);
     }
-    while i < cells {
-        settle_added(&mut *points, cells, i);
-        i += 1;
+    for i in own_cells..cells {
+        settle_added(points, cells, i);
     }
 }
