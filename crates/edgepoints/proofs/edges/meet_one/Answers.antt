@@ -6,7 +6,7 @@ use Rattle.edgepoints.specs.Internal.Edges.{meet}
 use Rattle.edgepoints.proofs.edges.meet_one.Goals as goal
 
 pub change_point-requires : goal.change_point-requires
-change_point-requires c = record { room = c.requires.room; callable = λ k b. ? }
+change_point-requires c = record { room = c.requires.room; callable = λ k b. (λ s p g r. omega arith, λ s p g r. b, λ s p g r h. omega arith, λ s p g r h. b, λ s p g r h i u. (near_kept _ c.requires.near k b, near_kept _ c.requires.neighbour_near k b)) }
 
 pub returns : goal.returns
 unfolding meet

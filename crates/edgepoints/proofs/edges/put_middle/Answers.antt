@@ -5,7 +5,7 @@ use Rattle.points.proofs.Only.{changed_is, near_stored, near_kept}
 use Rattle.edgepoints.proofs.edges.put_middle.Goals as goal
 
 pub change_point-requires : goal.change_point-requires
-change_point-requires c = record { room = c.requires.room; callable = λ k b. ? }
+change_point-requires c = record { room = c.requires.room; callable = λ k b. (λ s p g r. omega arith, λ s p g r. b, λ s p g r h. omega arith, λ s p g r h. b, λ s p g r h i u. (near_kept _ c.requires.near k b, near_kept _ c.requires.neighbour_near k b)) }
 
 pub returns : goal.returns
 returns c = changed_is _ c.change_point.ensures (λ k b z e. search (rules, e, near_stored _ c.requires.near k b, near_stored _ c.requires.neighbour_near k b))
