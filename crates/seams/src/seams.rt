@@ -18,11 +18,7 @@ use tables::cells::wide;
 fn known_creases(counts: &[u32], vertex: u32) -> u32
     ensures { result ≡ known_creases counts.now vertex }
 {
-    let place = wide(vertex);
-    if place < counts.len() {
-        return counts[place];
-    }
-    2
+    counts.get(wide(vertex)).copied().unwrap_or(2)
 }
 
 // A vertex stays put.
@@ -155,8 +151,7 @@ pub fn draw_seams(
         points.old }
 {
     let outline = creases.len() << level;
-    let mut halfedge = 0;
-    while halfedge < edge.len() {
+    for halfedge in 0..edge.len() {
         draw_any(
             creases,
             level,
@@ -168,6 +163,5 @@ pub fn draw_seams(
             vertices,
             halfedge,
         );
-        halfedge += 1;
     }
 }

@@ -9,17 +9,6 @@ use halfedges::table::HalfedgeTable;
 use tables::cells::wide;
 use tables::rules::count_one;
 
-// A tally of zeros.
-fn clear_counts(counts: &mut [u32])
-    ensures { (u : ℕ) → u < length counts.new → cell counts.new u ≡ 0 }
-{
-    let mut vertex = 0;
-    while vertex < counts.len() {
-        counts[vertex] = 0;
-        vertex += 1;
-    }
-}
-
 // A border edge is a crease of both its ends.
 fn count_ends(vert: &[u32], counts: &mut [u32], halfedge: usize)
     requires { (length vert.now % 3 ≡ 0) × (length vert.now ≤ most_halfedges) × (halfedge < length vert.now)
@@ -69,10 +58,8 @@ pub fn count_creases(
     ensures { CreasesCounted level (tables twin.now vert.now edge.now) creases.now
         counts.new }
 {
-    clear_counts(counts);
-    let mut halfedge = 0;
-    while halfedge < vert.len() {
+    counts.fill(0);
+    for halfedge in 0..vert.len() {
         count_halfedge(twin, vert, edge, creases, level, counts, halfedge);
-        halfedge += 1;
     }
 }
