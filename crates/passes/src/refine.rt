@@ -137,7 +137,7 @@ fn climb(
         (tables twin.now vert.now edge.now) creases.now points.old }
 {
     let mut level = cage;
-    while level.left > 0 {
+    for _ in 0..cage.left {
         refine_level(
             weight,
             own,

@@ -122,14 +122,7 @@ fn draw_any(
 {
     if wide(edge[halfedge]) < outline {
         draw_part(
-            creases,
-            level,
-            counts,
-            vert,
-            edge,
-            points,
-            vertices,
-            halfedge,
+            creases, level, counts, vert, edge, points, vertices, halfedge,
         );
     }
 }
@@ -153,15 +146,7 @@ pub fn draw_seams(
     let outline = creases.len() << level;
     for halfedge in 0..edge.len() {
         draw_any(
-            creases,
-            level,
-            outline,
-            counts,
-            vert,
-            edge,
-            points,
-            vertices,
-            halfedge,
+            creases, level, outline, counts, vert, edge, points, vertices, halfedge,
         );
     }
 }

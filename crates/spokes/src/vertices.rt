@@ -27,7 +27,12 @@ pub fn settle_vertices(weight: Weight, own: &[u32], points: &mut [i32], vertices
     let own_cells = 3 * own.len();
     for i in 0..own_cells {
         let corners = own[i / 3];
-        settle_cell(points, cells, i, |place, sum| inner_vertex(weight, corners, place, sum));
+        settle_cell(
+            points,
+            cells,
+            i,
+            |place, sum| inner_vertex(weight, corners, place, sum),
+        );
     }
     for i in own_cells..cells {
         settle_cell(points, cells, i, added_vertex);

@@ -11,9 +11,9 @@ pub returns-then-triangle-eq-NO_TWIN-2 : goal.returns-then-triangle-eq-NO_TWIN-2
 unfolding border_among
 returns-then-triangle-eq-NO_TWIN-2 c =
     elim c.if-triangle-eq-NO_TWIN.branch [
-      then-triangle-eq-NO_TWIN w ↦ w.t-3-is ∙ rw (eq-eqb _ marker w.if-triangle-eq-NO_TWIN.true)
-    | else-triangle-eq-NO_TWIN w ↦
-      w.t-3-is ∙ elim c.if-triangle-eq-NO_TWIN-2.either [ inl e ↦ absurd (w.if-triangle-eq-NO_TWIN.false e) | inr e ↦ rw (ne_eqb _ marker e.0, eq-eqb _ marker e.1) ]
+      | then-triangle-eq-NO_TWIN w ↦ w.t-3-is ∙ rw (eq-eqb _ marker w.if-triangle-eq-NO_TWIN.true)
+      | else-triangle-eq-NO_TWIN w ↦
+          w.t-3-is ∙ elim c.if-triangle-eq-NO_TWIN-2.either [ inl e ↦ absurd (w.if-triangle-eq-NO_TWIN.false e) | inr e ↦ rw (ne_eqb _ marker e.0, eq-eqb _ marker e.1) ]
     ]
 
 pub returns-else-triangle-eq-NO_TWIN-2 : goal.returns-else-triangle-eq-NO_TWIN-2

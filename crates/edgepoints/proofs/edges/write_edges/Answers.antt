@@ -1,9 +1,8 @@
 -- `write_edges` takes three steps of its definition a turn, of a triangle's halfedges; the level's points stay where they are.
 use Prim.Native.Nat.{◌+◌, ◌*◌, ◌<◌}
-use mathlib.Core.Path.{refl, sym, subst}
+use mathlib.Core.Path.{sym, subst}
 use native.Mathlib.Omega.{arith}
 use lib.ListN.{length}
-use borrow.Author.Rules.{rules}
 use Rattle.laws.proofs.Steps.{steps_none, steps_end}
 use Rattle.edgepoints.specs.Internal.Edges.{Asks, step_edge, triangle_of, Readable, AskedInTurn}
 use Rattle.edgepoints.proofs.Writes.{triangle_asks, triangle_same}

@@ -1,7 +1,6 @@
 -- `draw_seams` takes a step of its definition a turn; the level's points stay where they are.
-use borrow.Author.Rules.{rules}
 use Prim.Native.Nat.{◌<◌}
-use mathlib.Core.Path.{refl, sym}
+use mathlib.Core.Path.{sym}
 use native.Mathlib.Omega.{arith}
 use lib.ListN.{length}
 use Rattle.laws.proofs.Steps.{steps_none, steps_end}

@@ -1,6 +1,5 @@
 -- `count_creases` has counted the creases of the halfedges passed.
 use borrow.Author.Rules.{rules}
-use mathlib.Core.Path.{refl}
 use native.Mathlib.Omega.{arith}
 use lib.ListN.{length}
 use Rattle.std.proofs.lemmas.List.{get_or-replicate}

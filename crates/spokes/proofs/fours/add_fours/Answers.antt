@@ -1,7 +1,6 @@
 -- `add_fours` takes one step of its definition a turn, of a triangle of the level before; the sums so far leave room for it.
-use mathlib.Core.Path.{refl, sym, ap, ◌∙◌, subst}
+use mathlib.Core.Path.{sym, ap, ◌∙◌, subst}
 use native.Mathlib.Omega.{arith}
-use borrow.Author.Rules.{rules}
 use Rattle.laws.specs.Internal.Steps.{steps}
 use Rattle.laws.proofs.Steps.{steps_none, steps_on, steps_end}
 use Rattle.points.proofs.Holding.{holds_own}

@@ -1,9 +1,8 @@
 -- `add_spokes` takes three steps of its definition a turn, of a triangle's halfedges; the sums so far leave room for them.
 use Prim.Native.Nat.{◌+◌, ◌*◌, ◌<◌}
-use mathlib.Core.Path.{refl, sym, subst}
+use mathlib.Core.Path.{sym, subst}
 use native.Mathlib.Omega.{arith}
 use lib.ListN.{length}
-use borrow.Author.Rules.{rules}
 use Rattle.laws.specs.Internal.Steps.{steps}
 use Rattle.laws.proofs.Steps.{steps_none, steps_end}
 use Rattle.spokes.specs.Internal.Spokes.{spoke, AddsTriangle}
