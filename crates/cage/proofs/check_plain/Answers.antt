@@ -1,9 +1,9 @@
--- `verdict` goes through the points' length, checks 1 to 7, and then the coordinates.
+-- `check_plain` goes through the points' length, checks 1 to 7, and then the coordinates.
 use mathlib.Core.Path.{◌∙◌}
 use Rattle.halfedges.proofs.Told.{handed_on}
 use Rattle.halfedges.proofs.Checks.{stops_before, passes_before}
 use Rattle.cage.proofs.CageChecks.{cage_shape, cage_parts, points_last}
-use Rattle.cage.proofs.verdict.Goals as goal
+use Rattle.cage.proofs.check_plain.Goals as goal
 
 pub returns-then-points-ne0 : goal.returns-then-points-ne0
 returns-then-points-ne0 c = cage_shape _ _ _ c.if-points-ne0.true
