@@ -1,5 +1,4 @@
 -- `lowest_apart` goes up to the first corner without a mark.
-use borrow.Author.Rules.{rules}
 use mathlib.Core.Path.{◌≡◌, sym, ◌∙◌}
 use native.Mathlib.Omega.{arith}
 use lib.ListN.{length}
@@ -9,17 +8,17 @@ use Rattle.clauses.specs.Clauses.{apart}
 use Rattle.clauses.proofs.fans.lowest_apart.Goals as goal
 
 pub loop-halfedge-init : goal.loop-halfedge-init
-loop-halfedge-init c = (search rules, below_none (λ k. apart _ _ _ _ k ≡ _))
+loop-halfedge-init c = (below_none (λ k. apart _ _ _ _ k ≡ _))
 
 pub returns-then-is_apart : goal.returns-then-is_apart
 returns-then-is_apart c =
     let i = c.loop-halfedge in
-    sym (lowest_is _ (apart _ _ _ _) i.halfedge c.loop-halfedge-test.true (sym c.is_apart.ensures ∙ c.if-is_apart.true) i.invariant.1)
+    sym (lowest_is _ (apart _ _ _ _) i.halfedge (omega arith) (sym c.is_apart.ensures ∙ c.if-is_apart.true) i.invariant)
 
 pub loop-halfedge-preserved : goal.loop-halfedge-preserved
 loop-halfedge-preserved c =
     let i = c.loop-halfedge in
-    (search rules, below_more (λ k. apart _ _ _ _ k ≡ _) _ i.invariant.1 (sym c.is_apart.ensures ∙ c.if-is_apart.false))
+    (below_more (λ k. apart _ _ _ _ k ≡ _) _ i.invariant (sym c.is_apart.ensures ∙ c.if-is_apart.false))
 
 pub returns : goal.returns
-returns c = omega (arith, lowest_none (length c.args.vert.now) (apart c.args.twin.now c.args.vert.now c.args.vertex c.args.corner) (λ k l. c.loop-halfedge.invariant.1 k (omega arith)))
+returns c = omega (arith, lowest_none (length c.args.vert.now) (apart c.args.twin.now c.args.vert.now c.args.vertex c.args.corner) (λ k l. c.loop-halfedge.invariant k (omega arith)))

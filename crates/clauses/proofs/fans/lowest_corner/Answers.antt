@@ -1,5 +1,4 @@
 -- `lowest_corner` goes up to the first corner.
-use borrow.Author.Rules.{rules}
 use mathlib.Core.Path.{◌≡◌, sym, ◌∙◌}
 use native.Mathlib.Omega.{arith}
 use lib.ListN.{length}
@@ -10,17 +9,17 @@ use Rattle.tables.specs.Tables.{leaves}
 use Rattle.clauses.proofs.fans.lowest_corner.Goals as goal
 
 pub loop-halfedge-init : goal.loop-halfedge-init
-loop-halfedge-init c = (search rules, below_none (λ k. leaves c.args.vert.now c.args.vertex k ≡ _))
+loop-halfedge-init c = (below_none (λ k. leaves c.args.vert.now c.args.vertex k ≡ _))
 
 pub returns-then-wide-vertex : goal.returns-then-wide-vertex
 returns-then-wide-vertex c =
     let i = c.loop-halfedge in
-    sym (lowest_is _ (leaves c.args.vert.now c.args.vertex) i.halfedge c.loop-halfedge-test.true (eq-eqb _ _ (sym c.wide.ensures ∙ c.if-wide-vertex.true)) i.invariant.1)
+    sym (lowest_is _ (leaves c.args.vert.now c.args.vertex) i.halfedge (omega arith) (eq-eqb _ _ (sym c.wide.ensures ∙ c.if-wide-vertex.true)) i.invariant)
 
 pub loop-halfedge-preserved : goal.loop-halfedge-preserved
 loop-halfedge-preserved c =
     let i = c.loop-halfedge in
-    (search rules, below_more (λ k. leaves c.args.vert.now c.args.vertex k ≡ _) _ i.invariant.1 (ne_eqb _ _ (λ e. c.if-wide-vertex.false (c.wide.ensures ∙ e))))
+    (below_more (λ k. leaves c.args.vert.now c.args.vertex k ≡ _) _ i.invariant (ne_eqb _ _ (λ e. c.if-wide-vertex.false (c.wide.ensures ∙ e))))
 
 pub returns : goal.returns
-returns c = omega (arith, lowest_none (length c.args.vert.now) (leaves c.args.vert.now c.args.vertex) (λ k l. c.loop-halfedge.invariant.1 k (omega arith)))
+returns c = omega (arith, lowest_none (length c.args.vert.now) (leaves c.args.vert.now c.args.vertex) (λ k l. c.loop-halfedge.invariant k (omega arith)))

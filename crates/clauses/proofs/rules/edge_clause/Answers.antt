@@ -7,7 +7,7 @@ use Rattle.halfedges.specs.Cage.{cell, E}
 use Rattle.tables.proofs.EdgeCount.{edges_at_most}
 use Rattle.clauses.proofs.Broken.{edge_past_lem, edge_differs_lem, Alike, alone, paired, stranger_below, edge_shared_lem}
 use Rattle.clauses.proofs.rules.edge_clause.Goals as goal
-use Rattle.clauses.proofs.rules.edge_clause.Goals.{else-t, then-t+else-twins-number, After-wide-other, Else-edges-wide, Joined-t, Start}
+use Rattle.clauses.proofs.rules.edge_clause.Goals.{else-t, then-t+else-twins-own, After-wide-other, Else-edges-wide, Joined-t, Start}
 
 -- where the edge is in range
 module _ (i : Else-edges-wide) where
@@ -36,11 +36,11 @@ offset_bounds-edge-other c = omega (arith, twin_inside c)
 pub bounds-edge-other : goal.bounds-edge-other
 bounds-edge-other c = twin_inside (goal.at.bounds-edge-other c).After-wide-other
 
-pub returns-then-twins-number : goal.returns-then-twins-number
-returns-then-twins-number c =
-    let s = start (goal.at.returns-then-twins-number c).Else-edges-wide in
+pub returns-then-twins-own : goal.returns-then-twins-own
+returns-then-twins-own c =
+    let s = start (goal.at.returns-then-twins-own c).Else-edges-wide in
     rw c.wide-other.ensures
-    (edge_differs_lem _ _ _ (low (goal.at.returns-then-twins-number c).Else-edges-wide) c.if-t.true (λ e. c.if-twins-number.true (ap (cell s.args.edge.now) c.wide-other.ensures ∙ e)))
+    (edge_differs_lem _ _ _ (low (goal.at.returns-then-twins-own c).Else-edges-wide) c.if-t.true (λ e. c.if-twins-own.true (ap (cell s.args.edge.now) c.wide-other.ensures ∙ e)))
 
 -- where the twin does not differ
 module _ (j : Joined-t) where
@@ -50,7 +50,7 @@ module _ (j : Joined-t) where
   alike : Alike begun.args.twin.now begun.args.edge.now begun.args.halfedge
   alike =
       elim j.if-t.branch [
-        | then-t+else-twins-number w ↦ paired w.if-t.true (sym (ap (cell begun.args.edge.now) w.wide-other.ensures) ∙ w.if-twins-number.false)
+        | then-t+else-twins-own w ↦ paired w.if-t.true (sym (ap (cell begun.args.edge.now) w.wide-other.ensures) ∙ w.if-twins-own.false)
         | else-t w ↦ alone w.if-t.false
       ]
 
