@@ -51,6 +51,7 @@ impl Clause {
 }
 
 // The clause of a refusal of the tables, where its rule has clauses.
+#[tactic(auto, unfolding(crate::specs::Clauses::clause_at))]
 pub fn clause_at(
     twin: &[u32],
     vert: &[u32],
