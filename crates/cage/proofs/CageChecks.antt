@@ -1,9 +1,8 @@
--- Each outcome of checks 1 to 8, by the tests that lead to it: `cage_shape`, `cage_refused`, `cage_points`; of those with 15 and 14
--- `refine_shape`, `creased_refused`, `valence_refused`, `refine_points`; over the checks in three parts, `checks_then_lem`. With the short
--- weight there is no 14, `short_checks`. Where the checks are done 1 to 7 are, `tables-accepted`. What rule 14 relies on:
+-- Checks 1 to 8 where the points are no multiple of 3, `cage_shape`, and else in their parts, `cage_parts`; with 15 and 14 `refine_shape` and
+-- `refine_parts`; both by `checks_then_lem`. 8 alone, `points_last`. With the short weight there is no 14, `short_checks`. Where the checks are done 1 to 7 are, `tables-accepted`. What rule 14 relies on:
 -- `for_valences`. A coordinate out of range, by its sign: `too_low`, `too_high`. Assumes nothing.
 use Prim.Native.Nat.{ℕ, suc, ◌-◌, ◌%◌}
-use mathlib.Core.Path.{◌≡◌, refl, sym, ◌∙◌}
+use mathlib.Core.Path.{◌≡◌, refl, sym}
 use mathlib.Core.Logic.{◌≢◌}
 use mathlib.Core.Bool.{true, false, true≢false}
 use mathlib.Core.List.{List, [], ◌∷◌, ◌++◌}
@@ -15,7 +14,7 @@ use lib.ListN.{length}
 use borrow.Author.Tests.{eq-eqb, ne_eqb, lt-ltb, le-ltb, ltb-true, ltb-false}
 use Rattle.laws.proofs.Tests.{or_true, or_false_right}
 use Rattle.halfedges.specs.Refusals.{Verdict, DONE, SHAPE, POINT, given, given_at, first}
-use Rattle.halfedges.proofs.Checks.{done_both, first_stops, first_passes, given_alone}
+use Rattle.halfedges.proofs.Checks.{done_both, given_alone}
 use Rattle.halfedges.proofs.Questions.{limits_kept}
 use Rattle.tables.specs.Tables.{Tables}
 use Rattle.tables.specs.Rules.{misshapen}
@@ -44,39 +43,21 @@ for_valences c v depth e =
       below = λ h l. m.2.placed.below h (rw m.0.vert_long at l);
     }
 
+-- 8
+abbrev pub last : List ℤ → List Verdict
+last points = given_at (length points) (out_of_range points) POINT ∷ []
+
+pub points_last : (points : List ℤ) → given_at (length points) (out_of_range points) POINT ≡ first (last points)
+points_last points = given_alone (length points) (out_of_range points) POINT (λ k. omega arith)
+
 module _ (three more : List Verdict) (c : Tables) (points : List ℤ) (depth : ℕ) where
-  -- 8
-  abbrev last : List Verdict
-  last = given_at (length points) (out_of_range points) POINT ∷ []
-
-  abbrev all : List Verdict
-  all = checks_with three more c points depth
-
-  shape : length points % 3 ≢ 0 → SHAPE ≡ first all
+  shape : length points % 3 ≢ 0 → SHAPE ≡ first (checks_with three more c points depth)
   unfolding first given
   shape n = simp (ne_eqb (length points % 3) 0 n, or_true (misshapen c))
 
-  module _ (whole : length points % 3 ≡ 0) where
-    -- 1 and 2 with the rules handed over, then more, and then 8
-    pub checks_then_lem : all ≡ checks_then three c (vertices points) depth ++ (more ++ last)
-    checks_then_lem = rw (eq-eqb (length points % 3) 0 whole, or_false_right (misshapen c))
-
-    -- v is the first of 1 to 7
-    module _ (v : Verdict) (e : v ≡ first (checks_then three c (vertices points) depth)) where
-      refused : v.number ≢ 0 → v ≡ first all
-      refused r = rw checks_then_lem (first_stops _ _ v e r)
-
-      module _ (z : v.number ≡ 0) where
-        left : first (more ++ last) ≡ first all
-        left = rw checks_then_lem (sym (first_passes (checks_then three c (vertices points) depth) _ v e z))
-
-        -- u is the first of what comes before 8
-        module _ (u : Verdict) (f : u ≡ first more) where
-          more_refused : u.number ≢ 0 → u ≡ first all
-          more_refused r = first_stops more last u f r ∙ left
-
-          in_points : u.number ≡ 0 → given_at (length points) (out_of_range points) POINT ≡ first all
-          in_points y = given_alone (length points) (out_of_range points) POINT (λ k. omega arith) ∙ sym (first_passes more last u f y) ∙ left
+  -- 1 and 2 with the rules handed over, then more, and then 8
+  pub checks_then_lem : length points % 3 ≡ 0 → checks_with three more c points depth ≡ checks_then three c (vertices points) depth ++ (more ++ last points)
+  checks_then_lem whole = rw (eq-eqb (length points % 3) 0 whole, or_false_right (misshapen c))
 
 -- without creases
 module _ (c : Tables) (points : List ℤ) (depth : ℕ) where
@@ -84,14 +65,9 @@ module _ (c : Tables) (points : List ℤ) (depth : ℕ) where
   unfolding cage_checks
   cage_shape = shape (rules c (vertices points)) [] c points depth
 
-  module _ (whole : length points % 3 ≡ 0) (v : Verdict) (e : v ≡ first (table_checks c (vertices points) depth)) where
-    pub cage_refused : v.number ≢ 0 → v ≡ first (cage_checks c points depth)
-    unfolding cage_checks table_checks
-    cage_refused = refused (rules c (vertices points)) [] c points depth whole v e
-
-    pub cage_points : v.number ≡ 0 → given_at (length points) (out_of_range points) POINT ≡ first (cage_checks c points depth)
-    unfolding cage_checks table_checks first
-    cage_points z = in_points (rules c (vertices points)) [] c points depth whole v e z DONE refl refl
+  pub cage_parts : length points % 3 ≡ 0 → cage_checks c points depth ≡ table_checks c (vertices points) depth ++ last points
+  unfolding cage_checks table_checks
+  cage_parts = checks_then_lem (rules c (vertices points)) [] c points depth
 
 -- with creases, and 14
 module _ (w : Weight) (c : Tables) (creases : List ℕ) (points : List ℤ) (depth : ℕ) where
@@ -102,19 +78,9 @@ module _ (w : Weight) (c : Tables) (creases : List ℕ) (points : List ℤ) (dep
   unfolding refine_checks
   refine_shape = shape (creased_rules c creases (vertices points)) valence c points depth
 
-  module _ (whole : length points % 3 ≡ 0) (v : Verdict) (e : v ≡ first (creased_table_checks c creases (vertices points) depth)) where
-    pub creased_refused : v.number ≢ 0 → v ≡ first (refine_checks w c creases points depth)
-    unfolding refine_checks creased_table_checks
-    creased_refused = refused (creased_rules c creases (vertices points)) valence c points depth whole v e
-
-    module _ (z : v.number ≡ 0) (u : Verdict) (f : u ≡ first valence) where
-      pub valence_refused : u.number ≢ 0 → u ≡ first (refine_checks w c creases points depth)
-      unfolding refine_checks creased_table_checks
-      valence_refused = more_refused (creased_rules c creases (vertices points)) valence c points depth whole v e z u f
-
-      pub refine_points : u.number ≡ 0 → given_at (length points) (out_of_range points) POINT ≡ first (refine_checks w c creases points depth)
-      unfolding refine_checks creased_table_checks
-      refine_points = in_points (creased_rules c creases (vertices points)) valence c points depth whole v e z u f
+  pub refine_parts : length points % 3 ≡ 0 → refine_checks w c creases points depth ≡ creased_table_checks c creases (vertices points) depth ++ (valence ++ last points)
+  unfolding refine_checks creased_table_checks
+  refine_parts = checks_then_lem (creased_rules c creases (vertices points)) valence c points depth
 
 -- so where the cage check is done, 1 to 7 are
 pub tables-accepted : (c : Tables) (points : List ℤ) (depth : ℕ) → length points % 3 ≡ 0 → first (cage_checks c points depth) ≡ DONE → first (table_checks c (vertices points) depth) ≡ DONE

@@ -9,7 +9,7 @@ ghost use Rattle.tables.specs.Check.{checked};
 ghost use Rattle.points.specs.Operations.{unshaped as operations_unshaped, most_coordinate, out_of_range, cage_checks, refine_checks, check_creased};
 
 use creases::check as creased;
-use halfedges::answer::Answer;
+use halfedges::refusal::Refusal;
 use points::rules::{LEAST_COORDINATE, MOST_COORDINATE};
 use points::weights::Weight;
 use tables::check;
@@ -17,17 +17,14 @@ use tables::check::Checked;
 use valences::check_valences;
 
 // Checks 1 to 8 of any tables without creases, as writing form 1 has them. No weight is chosen here, so none for which 14 would be given.
-pub fn verdict(twin: &[u32], vert: &[u32], edge: &[u32], points: &[i32]) -> Answer
+pub fn verdict(twin: &[u32], vert: &[u32], edge: &[u32], points: &[i32]) -> Result<(), Refusal>
     ensures { told result ≡ first (cage_checks (tables twin.now vert.now edge.now)
         points.now 0) }
 {
     if points.len() % 3 != 0 {
-        return Answer::Shape;
+        return Err(Refusal::Shape);
     }
-    let answer = check::check_for_depth(twin, vert, edge, points.len() / 3, 0);
-    if answer.number() != 0 {
-        return answer;
-    }
+    check::check_for_depth(twin, vert, edge, points.len() / 3, 0)?;
     check_points(points)
 }
 
@@ -38,12 +35,12 @@ pub fn check_creased(
     edge: &[u32],
     points: &[i32],
     creases: &[u8],
-) -> Checked
+) -> Result<Checked, Refusal>
     ensures { checked result ≡ check_creased (tables twin.now vert.now edge.now)
         creases.now points.now }
 {
-    let told = check_for_refining(twin, vert, edge, points, creases, 0, Weight::Short);
-    check::answered(told, twin, points.len() / 3)
+    check_for_refining(twin, vert, edge, points, creases, 0, Weight::Short)?;
+    Ok(check::found(twin, points.len() / 3))
 }
 
 // Checks 1 to 8 and 15 of any tables, where the depth's limit counts too, and 14 by the weight chosen.
@@ -55,22 +52,16 @@ pub fn check_for_refining(
     creases: &[u8],
     depth: usize,
     weight: Weight,
-) -> Answer
+) -> Result<(), Refusal>
     ensures { told result ≡ first (refine_checks weight (tables twin.now vert.now edge.now)
         creases.now points.now depth) }
 {
     if points.len() % 3 != 0 {
-        return Answer::Shape;
+        return Err(Refusal::Shape);
     }
     let vertices = points.len() / 3;
-    let answer = creased::check_for_depth(twin, vert, edge, creases, vertices, depth);
-    if answer.number() != 0 {
-        return answer;
-    }
-    let valence = check_valences(weight, twin, vert, vertices);
-    if valence.number() != 0 {
-        return valence;
-    }
+    creased::check_for_depth(twin, vert, edge, creases, vertices, depth)?;
+    check_valences(weight, twin, vert, vertices)?;
     check_points(points)
 }
 
@@ -88,13 +79,13 @@ pub fn unshaped(vert: &[u32], points: &[i32]) -> bool
 }
 
 // Rule 8: every coordinate is in range. Most tables are passed without looking for a place.
-pub fn check_points(points: &[i32]) -> Answer
+pub fn check_points(points: &[i32]) -> Result<(), Refusal>
     ensures { told result ≡ given_at (length points.now) (out_of_range points.now) POINT }
 {
     if any_out_of_range(points) {
         return find_out_of_range(points);
     }
-    Answer::Done
+    Ok(())
 }
 
 // Whether some coordinate is out of range, found without a branch.
@@ -102,26 +93,22 @@ fn any_out_of_range(points: &[i32]) -> bool
     ensures { result ≡ any (length points.now) (out_of_range points.now) }
 {
     let mut found = false;
-    let mut place = 0;
-    while place < points.len() {
-        found = found | out_of_range(points[place]);
-        place += 1;
+    for coordinate in points {
+        found = found | out_of_range(*coordinate);
     }
     found
 }
 
 // The first coordinate that is out of range.
-fn find_out_of_range(points: &[i32]) -> Answer
+fn find_out_of_range(points: &[i32]) -> Result<(), Refusal>
     ensures { told result ≡ given_at (length points.now) (out_of_range points.now) POINT }
 {
-    let mut place = 0;
-    while place < points.len() {
+    for place in 0..points.len() {
         if out_of_range(points[place]) {
-            return Answer::Point(place);
+            return Err(Refusal::Point(place));
         }
-        place += 1;
     }
-    Answer::Done
+    Ok(())
 }
 
 // Whether a coordinate is below or above the range.

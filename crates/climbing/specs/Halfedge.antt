@@ -1,12 +1,12 @@
 -- Document 02 §9: "TWIN, VERT and EDGE of one halfedge at a depth".
-use Rattle.std.specs.Prelude.{ℕ, List, [], ◌∷◌, ◌++◌, leb}
+use Rattle.std.specs.Prelude.{ℕ, List, [], ◌∷◌, ◌++◌, Result, leb}
+use Rattle.halfedges.specs.declared.refusal.Refusal.{Refusal}
 use Rattle.halfedges.specs.Cage.{cell}
-use Rattle.halfedges.specs.Refusals.{Verdict, NO_SUCH_HALFEDGE, told, given, first, Said, said}
+use Rattle.halfedges.specs.Refusals.{Verdict, NO_SUCH_HALFEDGE, given, first, Said, said, answered}
 use Rattle.halfedges.specs.Counts.{Hs}
 use Rattle.tables.specs.Tables.{Tables, counts_of}
 use Rattle.tables.specs.Check.{table_checks}
 use Rattle.splitting.specs.NextLevel.{level}
-use Rattle.climbing.specs.declared.Asked.{Asked}
 use Rattle.climbing.specs.declared.rows.Cells.{Cells}
 
 -- what the tables hold for halfedge h
@@ -25,5 +25,5 @@ unfoldable pub halfedge_question : Tables → ℕ → ℕ → ℕ → Said Cells
 halfedge_question c v depth h = said (first (halfedge_checks c v depth h)) (cells_of (level (counts_of c v) c depth) h) no_cells
 
 -- what the code's answer says
-abbrev pub asked : Asked → Said Cells
-asked r = record { verdict = told r.answer; values = r.cells }
+abbrev pub asked : Result Cells Refusal → Said Cells
+asked = answered (λ x. x) no_cells

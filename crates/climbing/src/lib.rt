@@ -12,17 +12,10 @@ ghost use Rattle.climbing.specs.Internal.Climbing.{InTables, Climbable};
 pub mod rows;
 
 use crate::rows::Cells;
-use halfedges::answer::Answer;
+use halfedges::refusal::Refusal;
 use halfedges::table::HalfedgeTable;
 use levels::refine;
 use tables::check;
-
-// The answer: done with TWIN, VERT and EDGE.
-#[derive(Clone, Copy)]
-pub struct Asked {
-    pub answer: Answer,
-    pub cells: Cells,
-}
 
 // TWIN, VERT and EDGE of a halfedge at a depth, of any tables and any numbers.
 pub fn ask(
@@ -32,35 +25,27 @@ pub fn ask(
     vertices: usize,
     depth: usize,
     halfedge: usize,
-) -> Asked
+) -> Result<Cells, Refusal>
     ensures { asked result ≡ halfedge_question (tables twin.now vert.now edge.now) vertices depth halfedge }
 {
-    let answer = verdict(twin, vert, edge, vertices, depth, halfedge);
-    if answer.number() != 0 {
-        let cells = Cells::none();
-        return Asked { answer, cells };
-    }
+    check_asked(twin, vert, edge, vertices, depth, halfedge)?;
     let cage = refine::counts_of(twin, vertices);
-    let cells = climb(twin, vert, edge, cage, depth, halfedge);
-    Asked { answer, cells }
+    Ok(climb(twin, vert, edge, cage, depth, halfedge))
 }
 
 // Checks 1 to 7 of any tables, and then whether the level has the halfedge.
-fn verdict(
+fn check_asked(
     twin: &[u32],
     vert: &[u32],
     edge: &[u32],
     vertices: usize,
     depth: usize,
     halfedge: usize,
-) -> Answer
+) -> Result<(), Refusal>
     ensures { told result
         ≡ first (halfedge_checks (tables twin.now vert.now edge.now) vertices depth halfedge) }
 {
-    let checked = check::check_for_depth(twin, vert, edge, vertices, depth);
-    if checked.number() != 0 {
-        return checked;
-    }
+    check::check_for_depth(twin, vert, edge, vertices, depth)?;
     let cage = HalfedgeTable {
         halfedges: twin.len(),
         edges: 0,
@@ -68,9 +53,9 @@ fn verdict(
     };
     let level = cage.at(depth);
     if level.halfedges <= halfedge {
-        return Answer::NoSuchHalfedge(halfedge);
+        return Err(Refusal::NoSuchHalfedge(halfedge));
     }
-    checked
+    Ok(())
 }
 
 // What the tables of the level at a depth hold for a halfedge: up to its ancestor in the level before, and from there down again by

@@ -18,7 +18,7 @@ pub struct Cells {
 }
 
 impl Cells {
-    // Of a refusal.
+    // What stands where the cells would, of a refusal: zeros.
     pub fn none() -> Cells
         ensures { result ≡ no_cells }
     {

@@ -7,7 +7,7 @@ ghost use Rattle.creases.specs.Creases.{most_crease, bad_crease};
 ghost use Rattle.creases.specs.Check.{creased_table_checks};
 ghost use Rattle.creases.specs.Internal.Borders.{ForCreases, Markable, MarkedAt, MarkedTo, Marked};
 
-use halfedges::answer::Answer;
+use halfedges::refusal::Refusal;
 use halfedges::table::HalfedgeTable;
 use tables::cells::wide;
 use tables::{check, fans, rules};
@@ -23,30 +23,21 @@ pub fn check_for_depth(
     creases: &[u8],
     vertices: usize,
     depth: usize,
-) -> Answer
+) -> Result<(), Refusal>
     ensures { told result ≡ first (creased_table_checks (tables twin.now vert.now edge.now)
         creases.now vertices depth) }
 {
-    let pairs = check::check_pairs(twin, vert, edge, vertices, depth);
-    if pairs.number() != 0 {
-        return pairs;
-    }
+    check::check_pairs(twin, vert, edge, vertices, depth)?;
     if creases.len() != rules::count_edges(twin) {
-        return Answer::Shape;
+        return Err(Refusal::Shape);
     }
-    let places = check::check_places(twin, vert, edge, vertices);
-    if places.number() != 0 {
-        return places;
-    }
-    let numbers = check_creases(twin, edge, creases);
-    if numbers.number() != 0 {
-        return numbers;
-    }
+    check::check_places(twin, vert, edge, vertices)?;
+    check_creases(twin, edge, creases)?;
     fans::check_fans(twin, vert, vertices)
 }
 
 // Rule 15, where rules 1 to 3 and 6 are kept.
-fn check_creases(twin: &[u32], edge: &[u32], creases: &[u8]) -> Answer
+fn check_creases(twin: &[u32], edge: &[u32], creases: &[u8]) -> Result<(), Refusal>
     requires { ForCreases twin.now edge.now creases.now }
     ensures { told result ≡ given_at (E twin.now) (bad_crease twin.now edge.now creases.now) CREASE }
 {
@@ -60,10 +51,8 @@ fn mark_borders(twin: &[u32], edge: &[u32], borders: &mut [bool])
     requires { Markable twin.now edge.now borders.old × MarkedTo twin.now edge.now 0 borders.old }
     ensures { Marked twin.now edge.now borders.new }
 {
-    let mut halfedge = 0;
-    while halfedge < edge.len() {
+    for halfedge in 0..edge.len() {
         mark_edge(twin, edge, borders, halfedge);
-        halfedge += 1;
     }
 }
 
@@ -80,19 +69,22 @@ fn mark_edge(twin: &[u32], edge: &[u32], borders: &mut [bool], halfedge: usize)
 }
 
 // Rule 15, by marks of the edges on a border.
-fn first_bad_crease(borders: &[bool], twin: &[u32], edge: &[u32], creases: &[u8]) -> Answer
+fn first_bad_crease(
+    borders: &[bool],
+    twin: &[u32],
+    edge: &[u32],
+    creases: &[u8],
+) -> Result<(), Refusal>
     requires { Marked twin.now edge.now borders.now × (length creases.now ≤ length borders.now) }
     ensures { told result ≡ given_at (length creases.now)
         (bad_crease twin.now edge.now creases.now) CREASE }
 {
-    let mut number = 0;
-    while number < creases.len() {
+    for number in 0..creases.len() {
         if bad_crease(creases[number], borders[number]) {
-            return Answer::Crease(number);
+            return Err(Refusal::Crease(number));
         }
-        number += 1;
     }
-    Answer::Done
+    Ok(())
 }
 
 // An edge's number is out of range, or not 0 on a border.

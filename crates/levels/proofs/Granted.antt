@@ -1,9 +1,8 @@
--- The verdict of refining the tables, as the code goes: `verdict_refused`, `checks_granted`, `verdict_passed`; what it says of the
--- cage, the depth and the lent tables where it is done: `granted`, `all_refinable`; and the outcome: `refine_refused`, `refine_done`.
--- Assumes nothing.
+-- What 1 to 7 leave of a cage and a depth where they pass: `granted`, and of the counts as the code has them `checks_granted`; what the
+-- verdict of refining the tables leaves of these and of the lent tables: `all_granted`, `all_refinable`; and the outcome:
+-- `refine_refused`, `refine_done`. Assumes nothing.
 use Prim.Native.Nat.{ℕ, ◌≤◌}
 use mathlib.Core.Path.{◌≡◌, refl, sym, ap, ◌∙◌}
-use mathlib.Core.Logic.{◌≢◌}
 use mathlib.Core.List.{List}
 use native.Mathlib.Omega.{arith}
 use lib.Dec.{ltb}
@@ -11,14 +10,14 @@ use lib.ListN.{length}
 use borrow.Author.Tests.{ltb-false, ne_eqb}
 use Rattle.laws.proofs.Counts.{count_at_most}
 use Rattle.halfedges.specs.Cage.{most_halfedges, most_depth, above, E}
-use Rattle.halfedges.specs.declared.answer.Answer.{Answer}
+use Rattle.halfedges.specs.declared.refusal.Refusal.{Refusal}
 use Rattle.halfedges.specs.declared.table.HalfedgeTable.{HalfedgeTable}
 use Rattle.halfedges.specs.declared.table.Levels.{Levels}
-use Rattle.halfedges.specs.Refusals.{Verdict, DONE, ROOM, told, short, first, Said, said, filled}
+use Rattle.halfedges.specs.Refusals.{Verdict, DONE, ROOM, refused, short, first, said, filled}
 use Rattle.halfedges.specs.Internal.Counts.{AtMost, refused_count}
 use Rattle.halfedges.specs.Counts.{room_h, levels, count_question}
-use Rattle.halfedges.proofs.Checks.{not_given, AllPassed, none, also, passed_all, all_passed_done, first_refused_before, first_passed_before, passed_both}
-use Rattle.halfedges.proofs.Told.{zero_done}
+use Rattle.halfedges.proofs.Checks.{not_given, AllPassed, none, also, passed_all, done_both}
+use Rattle.halfedges.proofs.Told.{refused_number}
 use Rattle.halfedges.proofs.Questions.{limits_kept, within, count_done}
 use Rattle.tables.specs.Tables.{Tables, counts_of}
 use Rattle.splitting.specs.Internal.InPlace.{Sound}
@@ -68,55 +67,35 @@ long_enough : (table room n : ℕ) → (short table room n).number ≡ 0 → roo
 unfolding short
 long_enough table room n e = ltb-false n room (not_given (ltb n room) (ROOM table) (omega arith) e)
 
-module _ (c : Tables) (v depth : ℕ) (x : Tables) where
-  abbrev checks : List Verdict
-  checks = table_checks c v depth
+-- where 1 to 7 pass, with the counts as the code has them
+pub checks_granted : (c : Tables) (v depth : ℕ) → DONE ≡ first (table_checks c v depth) → {u : HalfedgeTable} → u ≡ counts_of c v → AtMost most_halfedges u × (depth ≤ most_depth)
+checks_granted c v depth e p = let g = granted c v depth (sym e) in rw p (g.small, g.shallow)
 
+module _ (c : Tables) (v depth : ℕ) (x : Tables) where
   abbrev rooms : List Verdict
   rooms = short_tables (room_h (counts_of c v) depth) x
 
-  -- an answer tells the first of 1 to 7, and n is its number
-  module _ (a : Answer) {n : ℕ} (e : told a ≡ first checks) (m : n ≡ (told a).number) where
-    pub verdict_refused : n ≢ 0 → told a ≡ refine_tables_verdict c v depth x
+  -- where the verdict is done, with the counts as the code has them: the lent tables can be filled in, and the outcome
+  module _ (e : DONE ≡ refine_tables_verdict c v depth x) {u : HalfedgeTable} (p : u ≡ counts_of c v) where
+    both : (first (table_checks c v depth) ≡ DONE) × (first rooms ≡ DONE)
     unfolding refine_tables_verdict
-    verdict_refused r = e ∙ sym (first_refused_before rooms checks (λ z. r (m ∙ ap (λ w. w.number) e ∙ z)))
+    both = done_both (table_checks c v depth) rooms (sym e)
 
-    -- where they pass, with the counts as the code has them
-    module _ (z : n ≡ 0) {u : HalfedgeTable} (p : u ≡ counts_of c v) where
-      checks_done : first checks ≡ DONE
-      checks_done = sym e ∙ zero_done a (sym m ∙ z)
+    pub all_granted : AtMost most_halfedges u × (depth ≤ most_depth)
+    all_granted = checks_granted c v depth (sym both.0) p
 
-      pub checks_granted : (AtMost most_halfedges u) × (depth ≤ most_depth)
-      checks_granted = let g = granted c v depth checks_done in rw p (g.small, g.shallow)
+    pub all_refinable : Refinable u depth c x
+    unfolding short_tables
+    all_refinable = rw p (refinable (granted c v depth both.0) (by (passed_all rooms (ap (λ w. w.number) both.1))))
+      where
+        by : AllPassed rooms → (room_h (counts_of c v) depth ≤ length x.twin) × (room_h (counts_of c v) depth ≤ length x.vert) × (room_h (counts_of c v) depth ≤ length x.edge)
+        by (also t (also w (also d none))) = (long_enough 1 _ _ t, long_enough 2 _ _ w, long_enough 3 _ _ d)
 
-      pub verdict_passed : {w : Verdict} → w ≡ first (short_tables (room_h u depth) x) → w ≡ refine_tables_verdict c v depth x
-      unfolding refine_tables_verdict
-      verdict_passed q = rw p at q ∙ sym (first_passed_before rooms (passed_all checks (ap (λ w. w.number) checks_done)))
+    pub refine_done : {k : Levels} {y : Tables} → k ≡ levels u depth → y ≡ tables_in_front (levels_end_to_end u c depth) x
+        → (record { verdict = DONE; values = k } ≡ (refine_tables c v depth x).answer) × (y ≡ (refine_tables c v depth x).lent)
+    unfolding refine_tables said filled_tables filled tables_in_front
+    refine_done q r = rw (q, r, p, ← e, (granted c v depth both.0).counts) (refl, refl)
 
-  -- an answer tells the verdict, and n is its number
-  module _ (a : Answer) {n : ℕ} (e : told a ≡ refine_tables_verdict c v depth x) (m : n ≡ (told a).number) where
-    all : n ≡ 0 → AllPassed checks × AllPassed rooms
-    unfolding refine_tables_verdict
-    all z = passed_both rooms checks (passed_all _ (ap (λ w. w.number) (sym e) ∙ sym m ∙ z))
-
-    all_granted : n ≡ 0 → Granted c v depth
-    all_granted z = granted c v depth (all_passed_done (all z).0)
-
-    -- where it is done, with the counts as the code has them: the lent tables can be filled in, and the outcome
-    module _ (z : n ≡ 0) {u : HalfedgeTable} (p : u ≡ counts_of c v) where
-      pub all_refinable : Refinable u depth c x
-      unfolding short_tables
-      all_refinable = rw p (refinable (all_granted z) (by (all z).1))
-        where
-          by : AllPassed rooms → (room_h (counts_of c v) depth ≤ length x.twin) × (room_h (counts_of c v) depth ≤ length x.vert) × (room_h (counts_of c v) depth ≤ length x.edge)
-          by (also t (also w (also d none))) = (long_enough 1 _ _ t, long_enough 2 _ _ w, long_enough 3 _ _ d)
-
-      pub refine_done : {k : Said Levels} {y : Tables} → k ≡ count_question u depth → y ≡ tables_in_front (levels_end_to_end u c depth) x → (k ≡ (refine_tables c v depth x).answer) × (y ≡ (refine_tables c v depth x).lent)
-      unfolding refine_tables said filled_tables filled tables_in_front
-      refine_done q r =
-          let d : refine_tables_verdict c v depth x ≡ DONE = sym e ∙ zero_done a (sym m ∙ z) in
-          rw (q, r, p, d, (all_granted z).counts) (refl, refl)
-
-    pub refine_refused : n ≢ 0 → (refused_count (told a) ≡ (refine_tables c v depth x).answer) × (x ≡ (refine_tables c v depth x).lent)
-    unfolding refine_tables said filled_tables filled
-    refine_refused r = rw (← e, ne_eqb (told a).number 0 (λ z. r (m ∙ z))) (refl, refl)
+  pub refine_refused : (r : Refusal) → refused r ≡ refine_tables_verdict c v depth x → (refused_count (refused r) ≡ (refine_tables c v depth x).answer) × (x ≡ (refine_tables c v depth x).lent)
+  unfolding refine_tables said filled_tables filled
+  refine_refused r e = rw (← e, ne_eqb (refused r).number 0 (refused_number r)) (refl, refl)

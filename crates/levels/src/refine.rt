@@ -10,8 +10,8 @@ ghost use Rattle.levels.specs.Refining.{short_tables, levels_end_to_end, refine_
 ghost use Rattle.splitting.specs.Internal.InPlace.{level_at};
 ghost use Rattle.levels.specs.Internal.Filling.{Refinable, tables_in_front};
 
-use halfedges::answer::Answer;
-use halfedges::table::{Counted, HalfedgeTable};
+use halfedges::refusal::Refusal;
+use halfedges::table::{HalfedgeTable, Levels};
 use splitting::level;
 use tables::{check, rules};
 
@@ -51,22 +51,19 @@ pub fn refine_tables(
     twin: &mut [u32],
     vert: &mut [u32],
     edge: &mut [u32],
-) -> Counted
+) -> Result<Levels, Refusal>
     ensures result_value { counted result ≡ (refine_tables (tables cage_twin.now cage_vert.now cage_edge.now)
         vertices depth (tables twin.old vert.old edge.old)).answer }
     ensures edge_after { tables twin.new vert.new edge.new
         ≡ (refine_tables (tables cage_twin.now cage_vert.now cage_edge.now)
         vertices depth (tables twin.old vert.old edge.old)).lent }
 {
-    let answer = plan(
+    plan(
         cage_twin, cage_vert, cage_edge, vertices, depth, twin, vert, edge,
-    );
-    if answer.number() != 0 {
-        return Counted::refused(answer);
-    }
+    )?;
     let of = counts_of(cage_twin, vertices);
     fill(cage_twin, cage_vert, cage_edge, of, depth, twin, vert, edge);
-    of.count(depth)
+    Ok(of.levels(depth))
 }
 
 // H, E and V of a cage's tables.
@@ -90,14 +87,11 @@ fn plan(
     twin: &[u32],
     vert: &[u32],
     edge: &[u32],
-) -> Answer
+) -> Result<(), Refusal>
     ensures { told result ≡ refine_tables_verdict (tables cage_twin.now cage_vert.now cage_edge.now)
         vertices depth (tables twin.now vert.now edge.now) }
 {
-    let cage = check::check_for_depth(cage_twin, cage_vert, cage_edge, vertices, depth);
-    if cage.number() != 0 {
-        return cage;
-    }
+    check::check_for_depth(cage_twin, cage_vert, cage_edge, vertices, depth)?;
     let of = counts_of(cage_twin, vertices);
     short_levels(of, depth, twin, vert, edge)
 }
@@ -109,7 +103,7 @@ pub fn short_levels(
     twin: &[u32],
     vert: &[u32],
     edge: &[u32],
-) -> Answer
+) -> Result<(), Refusal>
     requires { (AtMost most_halfedges cage) × (depth ≤ most_depth) }
     ensures { told result ≡ first (short_tables (room_h cage depth) (tables twin.now vert.now edge.now)) }
 {
@@ -118,19 +112,19 @@ pub fn short_levels(
 }
 
 // The first of three lent tables that is shorter than the room.
-fn short_table(room: usize, twin: &[u32], vert: &[u32], edge: &[u32]) -> Answer
+fn short_table(room: usize, twin: &[u32], vert: &[u32], edge: &[u32]) -> Result<(), Refusal>
     ensures { told result ≡ first (short_tables room (tables twin.now vert.now edge.now)) }
 {
     if twin.len() < room {
-        return Answer::Room(1);
+        return Err(Refusal::Room(1));
     }
     if vert.len() < room {
-        return Answer::Room(2);
+        return Err(Refusal::Room(2));
     }
     if edge.len() < room {
-        return Answer::Room(3);
+        return Err(Refusal::Room(3));
     }
-    Answer::Done
+    Ok(())
 }
 
 // Copies a cage's tables to the front of the lent ones, and fills in its levels after it.

@@ -1,11 +1,11 @@
 // What a program says: a status and a text.
 ghost use Rattle.std.specs.Prelude.{◌+◌, ◌≤◌, length};
-ghost use Rattle.halfedges.specs.Refusals.{told};
+ghost use Rattle.halfedges.specs.Refusals.{refused as refusals_refused};
 ghost use Rattle.text.specs.Replies.{refused, misused};
 ghost use Rattle.text.specs.Internal.Put.{Replied};
 
 use crate::lines;
-use halfedges::answer::Answer;
+use halfedges::refusal::Refusal;
 
 // The status of an answer.
 pub const ANSWERED: usize = 0;
@@ -27,12 +27,12 @@ pub struct Written {
 }
 
 // A refusal: its line.
-pub fn put_refusal(out: &mut [u8], answer: Answer) -> Written
+pub fn put_refusal(out: &mut [u8], refusal: Refusal) -> Written
     requires { 50 ≤ length out.old }
-    ensures { Replied out.old 50 (refused (told answer)) out.new result }
+    ensures { Replied out.old 50 (refused (refusals_refused refusal)) out.new result }
 {
-    let number = answer.number();
-    let place = answer.place();
+    let number = refusal.number();
+    let place = refusal.place();
     let next = lines::put_word(&mut *out, 0, b"refused", lines::SPACE);
     let length = lines::put_pair(&mut *out, next, number, place, lines::NEWLINE);
     Written {

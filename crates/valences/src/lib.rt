@@ -6,25 +6,30 @@ ghost use Rattle.halfedges.specs.Refusals.{VALENCE, told, given_at, first};
 ghost use Rattle.points.specs.Operations.{many_corners, valence_checks};
 ghost use Rattle.valences.specs.Internal.Inside.{ForValences, ClearedAt, Cleared, CountedInside};
 
-use halfedges::answer::Answer;
+use halfedges::refusal::Refusal;
 use halfedges::table::HalfedgeTable;
 use points::weights::{MOST_VALENCE, Weight};
 use tables::cells::wide;
 use tables::rules::count_numbers;
 
 // Rule 14 by the weight chosen, where rules 1 to 4 are kept.
-pub fn check_valences(weight: Weight, twin: &[u32], vert: &[u32], vertices: usize) -> Answer
+pub fn check_valences(
+    weight: Weight,
+    twin: &[u32],
+    vert: &[u32],
+    vertices: usize,
+) -> Result<(), Refusal>
     requires { ForValences twin.now vert.now vertices }
     ensures { told result ≡ first (valence_checks weight twin.now vert.now vertices) }
 {
     match weight {
-        Weight::Short => Answer::Done,
+        Weight::Short => Ok(()),
         Weight::Paper => check_inside(twin, vert, vertices),
     }
 }
 
 // Rule 14 with the paper's weight.
-fn check_inside(twin: &[u32], vert: &[u32], vertices: usize) -> Answer
+fn check_inside(twin: &[u32], vert: &[u32], vertices: usize) -> Result<(), Refusal>
     requires { ForValences twin.now vert.now vertices }
     ensures { told result ≡ given_at vertices (many_corners twin.now vert.now) VALENCE }
 {
@@ -40,10 +45,8 @@ fn clear_borders(twin: &[u32], vert: &[u32], corners: &mut [u32])
     ensures { Cleared twin.now vert.now (length vert.now) corners.old
         corners.new }
 {
-    let mut halfedge = 0;
-    while halfedge < vert.len() {
+    for halfedge in 0..vert.len() {
         clear_ends(twin, vert, corners, halfedge);
-        halfedge += 1;
     }
 }
 
@@ -62,16 +65,19 @@ fn clear_ends(twin: &[u32], vert: &[u32], corners: &mut [u32], halfedge: usize)
 }
 
 // Rule 14, by a tally of the corners of each vertex inside.
-fn first_of_many(corners: &[u32], twin: &[u32], vert: &[u32], vertices: usize) -> Answer
+fn first_of_many(
+    corners: &[u32],
+    twin: &[u32],
+    vert: &[u32],
+    vertices: usize,
+) -> Result<(), Refusal>
     requires { CountedInside twin.now vert.now vertices corners.now }
     ensures { told result ≡ given_at vertices (many_corners twin.now vert.now) VALENCE }
 {
-    let mut vertex = 0;
-    while vertex < vertices {
+    for vertex in 0..vertices {
         if MOST_VALENCE < corners[vertex] {
-            return Answer::Valence(vertex);
+            return Err(Refusal::Valence(vertex));
         }
-        vertex += 1;
     }
-    Answer::Done
+    Ok(())
 }

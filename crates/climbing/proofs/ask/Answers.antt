@@ -1,18 +1,20 @@
--- `ask` refuses by its verdict, and else answers what it climbs to.
-use Rattle.climbing.proofs.Outcomes.{refused, climbable, in_level, answered}
+-- `ask` refuses by its checks, and else answers what it climbs to.
+use Rattle.halfedges.proofs.Told.{handed_on}
+use Rattle.halfedges.proofs.Checks.{said_refused, said_done}
+use Rattle.climbing.specs.Halfedge.{halfedge_question}
+use Rattle.climbing.proofs.Outcomes.{climbable, in_level}
 use Rattle.climbing.proofs.ask.Goals as goal
 
-pub returns-then-number-ne0 : goal.returns-then-number-ne0
-returns-then-number-ne0 c =
-    refused _ _ _ _ c.verdict-answer.result c.verdict-answer.ensures c.number.ensures c.if-number-ne0.true c.none-cells.ensures
+pub returns-in_err-check_asked : goal.returns-in_err-check_asked
+unfolding halfedge_question
+returns-in_err-check_asked c = rw (handed_on c.from_residual.ensures) (said_refused _ _ _ c.in_err-check_asked.ensures)
 
-pub climb-cells-requires : goal.climb-cells-requires
-climb-cells-requires c =
-    let v = c.verdict-answer in (
-      climbable _ _ _ _ v.result v.ensures c.number.ensures c.if-number-ne0.false c.counts_of-cage.ensures,
-      in_level _ _ _ _ v.result v.ensures c.number.ensures c.if-number-ne0.false c.counts_of-cage.ensures,
-    )
+pub climb-requires : goal.climb-requires
+climb-requires c = (
+  climbable _ _ _ _ c.in_ok-check_asked.ensures c.counts_of-cage.ensures,
+  in_level _ _ _ _ c.in_ok-check_asked.ensures c.counts_of-cage.ensures,
+)
 
 pub returns : goal.returns
-returns c =
-    answered _ _ _ _ c.verdict-answer.result c.verdict-answer.ensures c.number.ensures c.if-number-ne0.false c.counts_of-cage.ensures c.climb-cells.ensures
+unfolding halfedge_question
+returns c = said_done _ _ c.in_ok-check_asked.ensures (rw c.counts_of-cage.ensures at c.climb.ensures)

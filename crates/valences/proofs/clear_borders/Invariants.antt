@@ -1,11 +1,5 @@
-use Prim.Native.Nat.{◌-◌, ◌≤◌}
-use mathlib.Core.Path.{◌≡◌}
-use lib.ListN.{length}
 use Rattle.valences.specs.Internal.Inside.{Cleared}
 use Rattle.valences.proofs.clear_borders.Given as goal
 
 abbrev pub invariant-loop-halfedge : goal.invariant-loop-halfedge
-invariant-loop-halfedge l = (length l.corners ≡ length l.initial.corners) × (l.halfedge ≤ length l.vert) × Cleared l.twin l.vert l.halfedge l.initial.corners l.corners
-
-abbrev pub decreases-loop-halfedge : goal.decreases-loop-halfedge
-decreases-loop-halfedge l = length l.vert - l.halfedge
+invariant-loop-halfedge l = Cleared l.twin l.vert l.halfedge l.initial.corners l.corners

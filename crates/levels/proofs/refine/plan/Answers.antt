@@ -1,16 +1,18 @@
 -- `plan` goes through 1 to 7, and then the room.
-use Rattle.tables.specs.Tables.{tables}
-use Rattle.levels.proofs.Granted.{verdict_refused, checks_granted, verdict_passed}
+use mathlib.Core.Path.{◌∙◌}
+use Rattle.halfedges.proofs.Told.{handed_on}
+use Rattle.halfedges.proofs.Checks.{stops_before, passes_before}
+use Rattle.levels.specs.Refining.{refine_tables_verdict}
+use Rattle.levels.proofs.Granted.{checks_granted}
 use Rattle.levels.proofs.refine.plan.Goals as goal
 
-pub returns-then-number-ne0 : goal.returns-then-number-ne0
-returns-then-number-ne0 c = verdict_refused _ _ _ _ c.check_for_depth-cage.result c.check_for_depth-cage.ensures c.number.ensures c.if-number-ne0.true
+pub returns-in_err-check_for_depth : goal.returns-in_err-check_for_depth
+unfolding refine_tables_verdict
+returns-in_err-check_for_depth c = rw (handed_on c.from_residual.ensures) (stops_before _ _ _ c.in_err-check_for_depth.ensures)
 
 pub short_levels-requires : goal.short_levels-requires
-short_levels-requires c =
-    let x = tables c.args.twin.now c.args.vert.now c.args.edge.now in
-    checks_granted _ _ _ x c.check_for_depth-cage.result c.check_for_depth-cage.ensures c.number.ensures c.if-number-ne0.false c.counts_of-of.ensures
+short_levels-requires c = checks_granted _ _ _ c.in_ok-check_for_depth.ensures c.counts_of-of.ensures
 
 pub returns : goal.returns
-returns c =
-    verdict_passed _ _ _ _ c.check_for_depth-cage.result c.check_for_depth-cage.ensures c.number.ensures c.if-number-ne0.false c.counts_of-of.ensures c.short_levels.ensures
+unfolding refine_tables_verdict
+returns c = rw c.counts_of-of.ensures at c.short_levels.ensures ∙ passes_before _ _ c.in_ok-check_for_depth.ensures

@@ -2,7 +2,7 @@
 use Prim.Native.Nat.{◌<◌}
 use mathlib.Core.Path.{◌≡◌}
 use native.Mathlib.Omega.{arith}
-use lib.ListN.{length, length-set}
+use lib.ListN.{length}
 use Rattle.tables.proofs.Corners.{kept_more}
 use Rattle.tables.proofs.fans.keep_corners.Goals as goal
 use Rattle.tables.proofs.fans.keep_corners.Goals.{After-wide-vertex}

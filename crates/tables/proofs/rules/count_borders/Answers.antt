@@ -1,9 +1,7 @@
 -- `count_borders` counts the halfedges that have no twin.
 use mathlib.Core.Path.{◌≡◌}
-use native.Mathlib.Numerals.{add-one}
 use native.Mathlib.Omega.{arith}
 use lib.ListN.{length}
-use borrow.Author.Tests.{eq-eqb, ne_eqb}
 use Rattle.laws.proofs.Counts.{count_at_most}
 use Rattle.halfedges.specs.Cage.{border, B}
 use Rattle.tables.proofs.rules.count_borders.Goals as goal

@@ -17,9 +17,9 @@ loop-halfedge-preserved c =
     let i = c.loop-halfedge in
     let e = c.is_above.ensures in
     elim c.if-is_above.branch [
-        | then-is_above w ↦ let t = sym e ∙ w.if-is_above.true in rw (add-one, t) (omega (arith, w.edges-is, i.invariant))
-        | else-is_above w ↦ let t = sym e ∙ w.if-is_above.false in rw (add-one, t) (omega (arith, w.edges-is, i.invariant))
-      ]
+      | then-is_above w ↦ let t = sym e ∙ w.if-is_above.true in rw (add-one, t) (omega (arith, w.edges-is, i.invariant))
+      | else-is_above w ↦ let t = sym e ∙ w.if-is_above.false in rw (add-one, t) (omega (arith, w.edges-is, i.invariant))
+    ]
 
 pub returns : goal.returns
 unfolding E

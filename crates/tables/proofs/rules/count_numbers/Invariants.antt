@@ -1,4 +1,3 @@
-use mathlib.Core.Path.{◌≡◌}
 use Rattle.tables.specs.Internal.Tally.{Tallied}
 use Rattle.tables.proofs.rules.count_numbers.Given as goal
 
