@@ -29,12 +29,9 @@ pub fn fan_clause(twin: &[u32], vert: &[u32], vertex: usize) -> Clause
 fn lowest_corner(vert: &[u32], vertex: usize) -> usize
     ensures { result ≡ lowest_corner vert.now vertex }
 {
-    for halfedge in 0..vert.len() {
-        if wide(vert[halfedge]) == vertex {
-            return halfedge;
-        }
-    }
-    vert.len()
+    vert.iter()
+        .position(|corner| wide(*corner) == vertex)
+        .unwrap_or(vert.len())
 }
 
 // The lowest corner at a vertex without a mark; H where there is none.
@@ -43,26 +40,11 @@ fn lowest_apart(marks: &[u32], twin: &[u32], vert: &[u32], vertex: usize, corner
     ensures { result ≡ lowest_apart twin.now vert.now vertex corner }
 {
     for halfedge in 0..vert.len() {
-        if is_apart(marks, twin, vert, vertex, corner, halfedge) {
+        if wide(vert[halfedge]) == vertex && marks[halfedge] == 0 {
             return halfedge;
         }
     }
     vert.len()
-}
-
-// Whether a halfedge is one of the vertex's corners and has no mark.
-fn is_apart(
-    marks: &[u32],
-    twin: &[u32],
-    vert: &[u32],
-    vertex: usize,
-    corner: usize,
-    halfedge: usize,
-) -> bool
-    requires { (Joins twin.now corner marks.now) × (length vert.now ≡ length twin.now) × (length vert.now ≤ length marks.now) × (halfedge < length vert.now) }
-    ensures { result ≡ apart twin.now vert.now vertex corner halfedge }
-{
-    wide(vert[halfedge]) == vertex && marks[halfedge] == 0
 }
 
 // Marks all that is joined with a corner: first along the links, then against them.

@@ -1,15 +1,13 @@
--- `lowest_corner` goes up to the first corner.
-use mathlib.Core.Path.{sym, ◌∙◌}
-use native.Mathlib.Omega.{arith}
-use borrow.Author.Tests.{eq-eqb}
-use Rattle.laws.proofs.Lowest.{lowest_is, lowest_none}
-use Rattle.tables.specs.Tables.{leaves}
+-- The lowest corner is where the library finds the vertex first.
+use Rattle.std.proofs.Common.{rules, tests, eqb}
+use Rattle.std.proofs.lemmas.Iterator.{YieldsList-from_slice}
+use Rattle.std.proofs.lemmas.Iterator.Search.{position_from_yields_List}
+use Rattle.laws.proofs.Position.{found_lowest}
 use Rattle.clauses.proofs.fans.lowest_corner.Goals as goal
 
-pub returns-then-wide-vertex : goal.returns-then-wide-vertex
-returns-then-wide-vertex c =
-    let i = c.loop-halfedge in
-    sym (lowest_is _ (leaves c.args.vert.now c.args.vertex) i.halfedge (omega arith) (eq-eqb _ _ (sym c.wide.ensures ∙ c.if-wide-vertex.true)) i.invariant)
-
 pub returns : goal.returns
-returns c = sym (lowest_none _ _ (λ k l. c.loop-halfedge.invariant k (omega arith)))
+returns c =
+    let vert = c.args.vert.now in
+    let vertex = c.args.vertex in
+    let found = position_from_yields_List (λ corner. eqb corner vertex) _ _ c.position.result c.position.ensures.ran (YieldsList-from_slice vert cc) (λ x b q k. search (rules, tests)) in
+    found_lowest (λ corner. eqb corner vertex) 0 vert _ _ found c.unwrap_or.ensures
