@@ -1,5 +1,6 @@
 -- What the code's clause says: a clause by its number in the rule, with its numbers.
 use Rattle.std.specs.Prelude.{ℕ, Option, Some, None, List, [], ◌∷◌}
+use Rattle.halfedges.specs.Refusals.{Verdict, TWIN, VERTEX, UNUSED, EDGE, FAN}
 use Rattle.clauses.specs.declared.Clause.{Clause as Kind}
 use Rattle.clauses.specs.declared.Clause.TheVariants.{TwinPast, TwinItself, NotReturned, VertexPast, EndsAlike, TwinEndsDiffer, Unused, EdgePast, EdgeDiffers, EdgeShared, Apart}
 use Rattle.clauses.specs.Clauses.{Clause, clause, no_clause}
@@ -26,3 +27,17 @@ shown (Some k) = named k
 -- its number and the three numbers, one after another
 abbrev pub numbers : Clause → List ℕ
 numbers k = k.number ∷ k.first ∷ k.second ∷ k.third ∷ []
+
+-- the refusal of its rule, at a place
+abbrev pub broken : Kind → ℕ → Verdict
+broken (TwinPast t n) = TWIN
+broken (TwinItself t) = TWIN
+broken (NotReturned t b) = TWIN
+broken (VertexPast u v) = VERTEX
+broken (EndsAlike u n) = VERTEX
+broken (TwinEndsDiffer t s e) = VERTEX
+broken (Unused v) = UNUSED
+broken (EdgePast e n) = EDGE
+broken (EdgeDiffers t e o) = EDGE
+broken (EdgeShared e g) = EDGE
+broken (Apart g h) = FAN

@@ -1,9 +1,10 @@
 // Rule 7 at a vertex: what is joined with its lowest corner is marked, and the lowest corner without a mark is found.
 ghost use Rattle.std.specs.Prelude.{◌≡◌, true, ℕ, ◌≤◌, ◌<◌, length, get_or};
+ghost use Rattle.halfedges.specs.Refusals.{FAN};
 ghost use Rattle.tables.specs.Fans.{not_one_fan};
 ghost use Rattle.tables.specs.Internal.Walks.{Walkable};
 ghost use Rattle.clauses.specs.Clauses.{lowest_corner, apart, lowest_apart, fan_clause};
-ghost use Rattle.clauses.specs.Shown.{named};
+ghost use Rattle.clauses.specs.Shown.{named, broken};
 ghost use Rattle.clauses.specs.Internal.Marks.{step as Marks-step, Marked, Joins};
 
 use crate::Clause;
@@ -13,7 +14,8 @@ use tables::cells::wide;
 // Rule 7, where rule 3 is kept.
 pub fn fan_clause(twin: &[u32], vert: &[u32], vertex: usize) -> Clause
     requires { (Walkable twin.now) × (length vert.now ≡ length twin.now) × (not_one_fan twin.now vert.now vertex ≡ true) }
-    ensures { named result ≡ fan_clause twin.now vert.now vertex }
+    ensures value { named result ≡ fan_clause twin.now vert.now vertex }
+    ensures rule { broken result vertex ≡ FAN vertex }
 {
     let corner = lowest_corner(vert, vertex);
     let mut marks = [0u32; HalfedgeTable::MOST_HALFEDGES];

@@ -1,11 +1,11 @@
 // Why tables are sent back: the clause of the rule that is broken, and its numbers.
 #![tactic(auto)]
 
-ghost use Rattle.std.specs.Prelude.{◌≡◌};
+ghost use Rattle.std.specs.Prelude.{◌≡◌, IfSome};
 ghost use Rattle.halfedges.specs.Refusals.{refused};
 ghost use Rattle.tables.specs.Tables.{tables};
 ghost use Rattle.clauses.specs.Clauses.{clause_at};
-ghost use Rattle.clauses.specs.Shown.{numbers, named, shown};
+ghost use Rattle.clauses.specs.Shown.{numbers, named, shown, broken};
 ghost use Rattle.clauses.specs.Internal.Reached.{Reached};
 
 use halfedges::refusal::Refusal;
@@ -48,6 +48,25 @@ impl Clause {
             Clause::Apart { corner, other } => [1, corner, other, 0],
         }
     }
+
+    // The refusal of the clause's rule, at a place.
+    pub fn refusal(self, place: usize) -> Refusal
+        ensures { refused result ≡ broken self place }
+    {
+        match self {
+            Clause::TwinPast { .. } | Clause::TwinItself { .. } | Clause::NotReturned { .. } => {
+                Refusal::Twin(place)
+            }
+            Clause::VertexPast { .. } | Clause::EndsAlike { .. } | Clause::TwinEndsDiffer { .. } => {
+                Refusal::Vertex(place)
+            }
+            Clause::Unused { .. } => Refusal::Unused(place),
+            Clause::EdgePast { .. } | Clause::EdgeDiffers { .. } | Clause::EdgeShared { .. } => {
+                Refusal::Edge(place)
+            }
+            Clause::Apart { .. } => Refusal::Fan(place),
+        }
+    }
 }
 
 // The clause of a refusal of the tables, where its rule has clauses.
@@ -60,8 +79,10 @@ pub fn clause_at(
     refusal: Refusal,
 ) -> Option<Clause>
     requires { Reached (tables twin.now vert.now edge.now) vertices (refused refusal) }
-    ensures { shown result
+    ensures value { shown result
         ≡ clause_at (tables twin.now vert.now edge.now) vertices (refused refusal) }
+    ensures rule { IfSome result
+        (λ k. broken k (refused refusal).place ≡ refused refusal) }
 {
     match refusal {
         Refusal::Twin(halfedge) => Some(rules::twin_clause(twin, halfedge)),

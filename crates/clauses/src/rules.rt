@@ -1,10 +1,11 @@
 // Rules 3, 4 and 6 where they are broken: the first clause that holds, with its numbers.
 ghost use Rattle.std.specs.Prelude.{◌≡◌, ◌≤◌, ◌<◌, length};
 ghost use Rattle.halfedges.specs.Cage.{most_halfedges, most_vertices, E};
+ghost use Rattle.halfedges.specs.Refusals.{TWIN, VERTEX, EDGE};
 ghost use Rattle.tables.specs.Rules.{bad_twin, bad_vertex, stranger, bad_edge};
 ghost use Rattle.tables.specs.Internal.Relied.{ForVertices, ForEdges};
 ghost use Rattle.clauses.specs.Clauses.{twin_clause, vertex_clause, edge_clause, lowest_stranger};
-ghost use Rattle.clauses.specs.Shown.{named};
+ghost use Rattle.clauses.specs.Shown.{named, broken};
 ghost use Rattle.clauses.specs.Internal.Reached.{BrokenAt};
 
 use crate::Clause;
@@ -15,7 +16,8 @@ use tables::rules::count_edges;
 // Rule 3.
 pub fn twin_clause(twin: &[u32], halfedge: usize) -> Clause
     requires { (length twin.now ≤ most_halfedges) × BrokenAt (length twin.now) (bad_twin twin.now) halfedge }
-    ensures { named result ≡ twin_clause twin.now halfedge }
+    ensures value { named result ≡ twin_clause twin.now halfedge }
+    ensures rule { broken result halfedge ≡ TWIN halfedge }
 {
     let t = twin[halfedge];
     let other = wide(t);
@@ -38,7 +40,8 @@ pub fn twin_clause(twin: &[u32], halfedge: usize) -> Clause
 pub fn vertex_clause(twin: &[u32], vert: &[u32], vertices: usize, halfedge: usize) -> Clause
     requires for_vertices { ForVertices twin.now vert.now × (length twin.now ≤ most_halfedges) × (vertices ≤ most_vertices) }
     requires broken_at { BrokenAt (length twin.now) (bad_vertex twin.now vert.now vertices) halfedge }
-    ensures { named result ≡ vertex_clause twin.now vert.now vertices halfedge }
+    ensures value { named result ≡ vertex_clause twin.now vert.now vertices halfedge }
+    ensures rule { broken result halfedge ≡ VERTEX halfedge }
 {
     let vertex = vert[halfedge];
     if vertices <= wide(vertex) {
@@ -67,7 +70,8 @@ pub fn vertex_clause(twin: &[u32], vert: &[u32], vertices: usize, halfedge: usiz
 // Rule 6, where rule 3 is kept.
 pub fn edge_clause(twin: &[u32], edge: &[u32], halfedge: usize) -> Clause
     requires { ForEdges twin.now edge.now × BrokenAt (length twin.now) (bad_edge twin.now edge.now (E twin.now)) halfedge }
-    ensures { named result ≡ edge_clause twin.now edge.now halfedge }
+    ensures value { named result ≡ edge_clause twin.now edge.now halfedge }
+    ensures rule { broken result halfedge ≡ EDGE halfedge }
 {
     let edges = count_edges(twin);
     let own = edge[halfedge];
