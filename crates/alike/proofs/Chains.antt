@@ -1,6 +1,5 @@
 -- Chains of a group's items. Assumes nothing.
 --     chained_none, chained_on          how they are made, item after item
---     chain_of                          the chain of each group
 --     At, at_head, at_next              a place of a chain: it is 0 or one past an item of the group, and no item is passed over
 use Prim.Native.Nat.{ℕ, suc, ◌+◌, ◌-◌, ◌≤◌, ◌<◌}
 use mathlib.Core.Path.{◌≡◌, refl, sym, ◌∙◌}
@@ -14,7 +13,7 @@ use lib.ListN.{length, get_or, set, length-set}
 use lib.Seq.{get_or-set_same, get_or-set_other}
 use borrow.Author.Tests.{eq-eqb, ne_eqb, eqb-true}
 use Rattle.alike.specs.Internal.Reach.{reach}
-use Rattle.alike.specs.Internal.Alike.{in_group, Chained, Ready, Chain}
+use Rattle.alike.specs.Internal.Alike.{in_group, Chained, Chain}
 use Rattle.alike.proofs.Reached.{reach_none, reach_here, reach_lower, reach_at_most, reach_passes, reach-past}
 
 pub chained_none : (groups heads before : List ℕ) → ((g : ℕ) → g < length heads → get_or heads g 0 ≡ 0) → Chained groups 0 heads before
@@ -39,10 +38,6 @@ chained_on groups n heads before lg ln c =
     lower k l (yes e) = rw e (get_or-set_same before n (get_or heads (get_or groups n 0) 0) 0 ln ∙ c.head (get_or groups n 0) lg)
     lower k l (no e) = get_or-set_other before n k (get_or heads (get_or groups n 0) 0) 0 e ∙ c.lower k (omega (arith, e))
 
--- each group's chain
-pub chain_of : {groups labels heads before : List ℕ} → Ready groups labels heads before → (g : ℕ) → g < length heads → Chain groups labels before g (get_or heads g 0)
-chain_of r g l = record { keyed = r.keyed; room = r.room; starts = r.chained.head g l; lower = r.chained.lower }
-
 -- a place of group g's chain
 pub record At (groups : List ℕ) (g end : ℕ) : Type 0 where
   pub below : end ≤ length groups
@@ -55,9 +50,6 @@ module _ {groups labels before : List ℕ} {g head : ℕ} (c : Chain groups labe
         below = omega (arith, reach_at_most m (in_group groups g));
         here = λ n. eqb-true _ _ (reach_passes m (in_group groups g) (reach m (in_group groups g) - 1) (omega (arith, n)));
       }
-
-  pub head_below : head ≤ length groups
-  head_below = rw c.starts (reach_at_most (length groups) (in_group groups g))
 
   pub at_head : At groups g head
   at_head = rw c.starts (at (length groups) (omega arith))

@@ -1,30 +1,16 @@
 -- Numbers by their digits. Assumes nothing.
---     halved_on                one number more is split
---     keyed_digits             what stands before the last digit, and the last digit, as groups and labels
 --     firsts_narrow            the first items that are alike by them are small numbers in place of the numbers
-use Prim.Native.Nat.{ℕ, ◌+◌, ◌/◌, ◌%◌, ◌≤◌, ◌<◌}
+use Prim.Native.Nat.{ℕ, ◌/◌, ◌%◌, ◌≤◌, ◌<◌}
 use mathlib.Core.Path.{◌≡◌, refl, sym, ap, ◌∙◌}
 use mathlib.Core.Bool.{true}
 use mathlib.Core.List.{List}
-use native.Mathlib.Decide.{ℕ_discrete}
 use native.Mathlib.Omega.{arith}
-use lib.ListN.{length, get_or, set, take}
-use lib.Seq.{get_or-set_same, get_or-set_other, get_or-take, length-take-le}
+use lib.ListN.{length, get_or, take}
+use lib.Seq.{get_or-take, length-take-le}
 use Rattle.laws.proofs.Tests.{same_eqb}
-use Rattle.alike.specs.Internal.Alike.{bound, alike, first_like, Firsts, Keyed}
+use Rattle.alike.specs.Internal.Alike.{bound, alike, first_like, Firsts}
 use Rattle.alike.specs.Internal.Narrowed.{Halved, Narrowed}
 use Rattle.alike.proofs.Firsts.{like_group, like_label, like_both, first_like_lem, first_least}
-
-pub halved_on : (numbers : List ℕ) (n : ℕ) (upper low : List ℕ) → n < length upper → n < length low → Halved numbers n upper low → Halved numbers (n + 1) (set upper n (get_or numbers n 0 / bound)) (set low n (get_or numbers n 0 % bound))
-halved_on numbers n upper low lu ll h =
-    record {
-      before = λ k l. on upper (λ i. get_or numbers i 0 / bound) lu h.before k (omega arith) (ℕ_discrete k n);
-      last = λ k l. on low (λ i. get_or numbers i 0 % bound) ll h.last k (omega arith) (ℕ_discrete k n);
-    }
-  where
-    on : (cells : List ℕ) (f : ℕ → ℕ) → n < length cells → ((k : ℕ) → k < n → get_or cells k 0 ≡ f k) → (k : ℕ) → k ≤ n → Dec (k ≡ n) → get_or (set cells n (f n)) k 0 ≡ f k
-    on cells f l e k m (yes q) = rw q (get_or-set_same cells n (f n) 0 l)
-    on cells f l e k m (no q) = get_or-set_other cells n k (f n) 0 q ∙ e k (omega (arith, q))
 
 -- a table goes by the first n numbers of another: two cells are the same exactly where the numbers are
 abbrev pub GoesBy : (n : ℕ) (cells numbers : List ℕ) → Type 0
@@ -50,15 +36,6 @@ module _ (numbers upper low groups : List ℕ) (h : Halved numbers (length numbe
 
   label : {k : ℕ} → k < n → get_or d k 0 ≡ get_or numbers k 0 % bound
   label {k} l = get_or-take n low k 0 l ∙ h.last k l
-
-  pub keyed_digits : Keyed g d
-  keyed_digits =
-      record {
-        long = length-take-le n low ll ∙ sym long;
-        few = omega (arith, long, few);
-        group_below = λ k l. let m : k < n = omega (arith, long) in rw (group m) (below k m);
-        label_below = λ k l. let m : k < n = omega (arith, long) in omega (arith, label m);
-      }
 
   -- alike is as good as the same number
   same_number : (j k : ℕ) → j < n → k < n → alike g d k j ≡ true → get_or numbers j 0 ≡ get_or numbers k 0

@@ -1,8 +1,8 @@
 -- Down a group's chain. Assumes nothing.
 --     Lower, lower_start, lower_on, lower_end      of each label, the lowest item that was met is marked
---     Gone, gone_start, gone_on, gone_end          each item that was met has its first, and no item of another group changed
---     Groups, groups_on                            one group after the other
-use Prim.Native.Nat.{ℕ, ◌+◌, ◌-◌, ◌≤◌, ◌<◌}
+--     Gone, gone_start, gone_on                    each item that was met has its first, and no item of another group changed
+--     Groups                                       one group after the other
+use Prim.Native.Nat.{ℕ, ◌-◌, ◌≤◌, ◌<◌}
 use mathlib.Core.Path.{◌≡◌, refl, sym, ap, ◌∙◌}
 use mathlib.Core.Logic.{◌≢◌}
 use mathlib.Core.Bool.{true}
@@ -14,7 +14,7 @@ use lib.Seq.{get_or-set_same, get_or-set_other}
 use Rattle.laws.specs.Below.{lowest}
 use Rattle.laws.proofs.Tests.{by-test}
 use Rattle.laws.proofs.Lowest.{lowest_is}
-use Rattle.alike.specs.Internal.Alike.{alike, first_like, Chain, Marked, Told}
+use Rattle.alike.specs.Internal.Alike.{alike, first_like, Chain, Marked}
 use Rattle.alike.proofs.Firsts.{like_group, like_label, like_both}
 use Rattle.alike.proofs.Chains.{At, past_head, item_below, next_less, none_between}
 
@@ -38,13 +38,6 @@ module _ (groups labels : List ℕ) where
   -- the items of the groups below g have their first
   pub record Groups (g : ℕ) (first : List ℕ) : Type 0 where
     pub each : (k : ℕ) → k < length groups → get_or groups k 0 < g → get_or first k 0 ≡ first_like groups labels k
-
-  pub groups_on : (g : ℕ) (first first' : List ℕ) → Told groups labels g first first' → Groups g first → Groups (g + 1) first'
-  groups_on g first first' t w = record { each = λ k l b. by k l (omega (arith, b)) (ℕ_discrete (get_or groups k 0) g) }
-    where
-      by : (k : ℕ) → k < length groups → get_or groups k 0 ≤ g → Dec (get_or groups k 0 ≡ g) → get_or first' k 0 ≡ first_like groups labels k
-      by k l b (yes e) = t.same k l e
-      by k l b (no n) = t.kept k n ∙ w.each k l (omega (arith, n))
 
   module _ {before : List ℕ} {g head : ℕ} (c : Chain groups labels before g head) where
     pub lower_start : (marks : List ℕ) → Lower g head marks
@@ -121,6 +114,3 @@ module _ (groups labels : List ℕ) where
             same = λ k l f m. gone_at k l f m (ℕ_discrete k (end - 1));
             kept = λ k f. get_or-set_other now (end - 1) k _ 0 (λ q. f (ap (λ i. get_or groups i 0) q ∙ a.here n)) ∙ w.kept k f;
           }
-
-    pub gone_end : {entry now : List ℕ} → Gone g entry 0 now → Told groups labels g entry now
-    gone_end w = record { same = λ k l e. w.same k l e (omega arith); kept = w.kept }

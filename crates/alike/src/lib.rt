@@ -29,12 +29,10 @@ pub fn chain(groups: &[u32], labels: &[u32], heads: &mut [u32], before: &mut [u3
     requires by_index { (g : ℕ) → g < length heads.old → get_or heads.old g 0 ≡ 0 }
     ensures { Ready groups.now labels.now heads.new before.new }
 {
-    let mut item = 0;
-    while item < groups.len() {
+    for item in 0..groups.len() {
         let group = groups[item] as usize;
         before[item] = heads[group];
         heads[group] = (item + 1) as u32;
-        item += 1;
     }
 }
 
@@ -51,12 +49,10 @@ fn tell_groups(
     requires bound_in_bounds { (bound ≤ length marks.old) × (length groups.now ≤ length first.old) }
     ensures { Firsts groups.now labels.now first.new }
 {
-    let mut group = 0;
-    while group < heads.len() {
+    for group in 0..heads.len() {
         let head = heads[group] as usize;
         mark(groups, labels, before, group, head, marks);
         tell(groups, labels, before, group, head, marks, first);
-        group += 1;
     }
 }
 

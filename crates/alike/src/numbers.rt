@@ -12,14 +12,7 @@ const DIGIT: u32 = 4096;
 pub fn are_small(numbers: &[u32]) -> bool
     ensures { result ≡ true → Small numbers.now }
 {
-    let mut place = 0;
-    while place < numbers.len() {
-        if DIGIT <= numbers[place] {
-            return false;
-        }
-        place += 1;
-    }
-    true
+    numbers.iter().all(|&number| number < DIGIT)
 }
 
 // Of each number the first place where it stands: a number below the bound. It is found by three digits, two at a time.
@@ -52,11 +45,9 @@ fn split(numbers: &[u32], upper: &mut [u32], low: &mut [u32])
     requires { (length numbers.now ≤ length upper.old) × (length numbers.now ≤ length low.old) }
     ensures { Halved numbers.now (length numbers.now) upper.new low.new }
 {
-    let mut place = 0;
-    while place < numbers.len() {
+    for place in 0..numbers.len() {
         let number = numbers[place];
         upper[place] = number / DIGIT;
         low[place] = number % DIGIT;
-        place += 1;
     }
 }

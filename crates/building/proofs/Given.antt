@@ -5,7 +5,6 @@
 --     checks_given, room_left                                  all checks before the room, and then this
 use Prim.Native.Nat.{ℕ, ◌%◌, ◌≤◌, ◌<◌}
 use mathlib.Core.Path.{◌≡◌, sym, ap, ◌∙◌}
-use mathlib.Core.Logic.{◌≢◌}
 use mathlib.Core.Bool.{Bool, true, false, not}
 use mathlib.Core.List.{List, [], ◌∷◌}
 use native.Mathlib.Omega.{arith}
@@ -16,10 +15,10 @@ use borrow.Author.Tests.{eqb-true, lt-ltb, le-ltb, not-false}
 use Rattle.laws.specs.Below.{any, lowest}
 use Rattle.laws.proofs.Tests.{by-test, or_false₃, any_false}
 use Rattle.laws.proofs.Lowest.{lowest_none}
-use Rattle.halfedges.specs.declared.answer.Answer.{Answer}
-use Rattle.halfedges.specs.Refusals.{Verdict, SHAPE, LIMIT, ROOM, DOUBLED, DONE, told, given, given_at, short, first}
+use Rattle.halfedges.specs.declared.refusal.Refusal.{Refusal}
+use Rattle.halfedges.specs.Refusals.{Verdict, SHAPE, LIMIT, ROOM, DOUBLED, DONE, refused, given, given_at, short, first}
 use Rattle.halfedges.specs.Counts.{above_limit}
-use Rattle.halfedges.proofs.Checks.{is_passed, clean_done, first-refused, first_passed, first_stops, first_passes}
+use Rattle.halfedges.proofs.Checks.{is_passed, clean_done, first-refused, first_passed, stops_before, passes_before}
 use Rattle.halfedges.proofs.Questions.{limits_kept}
 use Rattle.points.specs.Operations.{vertices, unshaped}
 use Rattle.triangles.specs.Plain.{doubled, Undoubled, twin_table}
@@ -95,12 +94,12 @@ module _ (n t e : ℕ) where
   unfolding short given first
   both_roomy l m = simp (le-ltb t n l, le-ltb e n m)
 
--- a tells the first of all checks before the room
-module _ (vert : List ℕ) (points : List ℤ) (x y : List ℕ) (a : Answer) {n : ℕ} (e : told a ≡ first (build_checks vert points)) (m : n ≡ (told a).number) where
-  pub checks_given : n ≢ 0 → told a ≡ build_verdict vert points x y
+-- where the checks before the room tell a refusal, and where they are done
+module _ (vert : List ℕ) (points : List ℤ) (x y : List ℕ) where
+  pub checks_given : (r : Refusal) → refused r ≡ first (build_checks vert points) → refused r ≡ build_verdict vert points x y
   unfolding build_verdict
-  checks_given r = first_stops _ _ (told a) e (λ z. r (m ∙ z))
+  checks_given r e = stops_before _ _ r e
 
-  pub room_left : n ≡ 0 → first (rooms (length vert) (length x) (length y)) ≡ build_verdict vert points x y
+  pub room_left : DONE ≡ first (build_checks vert points) → first (rooms (length vert) (length x) (length y)) ≡ build_verdict vert points x y
   unfolding build_verdict
-  room_left z = sym (first_passes (build_checks vert points) _ (told a) e (sym m ∙ z))
+  room_left e = passes_before (build_checks vert points) _ e

@@ -1,19 +1,18 @@
--- What building answers and leaves: where a check is given (`build_refused`), and where it is done (`told_done`, `limits`,
--- `writable`, `build_done`). Assumes nothing.
+-- What building answers and leaves: where a check is given (`build_refused`), and where it is done (`limits`, `writable`,
+-- `build_done`). Assumes nothing.
 use Prim.Native.Nat.{ℕ, ◌≤◌}
-use mathlib.Core.Path.{◌≡◌, refl, sym, ap, ◌∙◌}
-use mathlib.Core.Logic.{◌≢◌}
+use mathlib.Core.Path.{◌≡◌, refl, ap, ◌∙◌}
 use mathlib.Core.List.{List}
 use lib.IntN.{ℤ}
 use lib.ListN.{length, replicate}
 use borrow.Author.Tests.{ne_eqb, ltb-false}
 use Rattle.laws.specs.Parts.{in_front}
-use Rattle.halfedges.specs.declared.answer.Answer.{Answer}
+use Rattle.halfedges.specs.declared.refusal.Refusal.{Refusal}
 use Rattle.halfedges.specs.Cage.{most_halfedges, most_vertices}
-use Rattle.halfedges.specs.Refusals.{DONE, SHAPE, LIMIT, ROOM, told, short, first, Said, said, filled}
+use Rattle.halfedges.specs.Refusals.{DONE, SHAPE, LIMIT, ROOM, refused, short, first, said, filled}
 use Rattle.halfedges.proofs.Checks.{done_both, done_passes}
 use Rattle.halfedges.proofs.Questions.{limits_kept}
-use Rattle.halfedges.proofs.Told.{zero_done}
+use Rattle.halfedges.proofs.Told.{refused_number}
 use Rattle.tables.specs.Check.{returned}
 use Rattle.points.specs.Operations.{vertices}
 use Rattle.triangles.specs.Plain.{twin_table, edge_table}
@@ -53,15 +52,16 @@ module _ (vert : List ℕ) (points : List ℤ) (x y : List ℕ) where
             edge_room = rw long roomy.1;
           }
 
-      pub build_done : {k : Said (List ℕ)} {t e : List ℕ} → k ≡ said DONE (returned twin (vertices points)) (replicate 5 0) → t ≡ in_front twin x → e ≡ in_front (edge_table twin) y → (k ≡ (build_cage vert points x y).answer) × (t ≡ (build_cage vert points x y).twin) × (e ≡ (build_cage vert points x y).edge)
-      unfolding build_cage filled
+      pub build_done : {k : List ℕ} {t e : List ℕ} → k ≡ returned twin (vertices points) → t ≡ in_front twin x → e ≡ in_front (edge_table twin) y → (record { verdict = DONE; values = k } ≡ (build_cage vert points x y).answer) × (t ≡ (build_cage vert points x y).twin) × (e ≡ (build_cage vert points x y).edge)
+      unfolding build_cage said filled
       build_done p q r = rw (p, q, r, b, d) (refl, refl, refl)
 
-  -- a tells the verdict
-  module _ (a : Answer) {n : ℕ} (e : told a ≡ build_verdict vert points x y) (m : n ≡ (told a).number) where
-    pub told_done : n ≡ 0 → build_verdict vert points x y ≡ DONE
-    told_done z = sym e ∙ zero_done a (sym m ∙ z)
-
-    pub build_refused : n ≢ 0 → {k : Said (List ℕ)} (twin : List ℕ) (v : ℕ) → k ≡ said (told a) (returned twin v) (replicate 5 0) → (k ≡ (build_cage vert points x y).answer) × (x ≡ (build_cage vert points x y).twin) × (y ≡ (build_cage vert points x y).edge)
-    unfolding build_cage said filled
-    build_refused r twin v p = rw (p, ← e, ne_eqb (told a).number 0 (λ z. r (m ∙ z))) (refl, refl, refl)
+  -- a refusal tells the verdict
+  pub build_refused :
+      (r : Refusal)
+      → refused r ≡ build_verdict vert points x y
+      → (record { verdict = refused r; values = replicate 5 0 } ≡ (build_cage vert points x y).answer)
+      × (x ≡ (build_cage vert points x y).twin)
+      × (y ≡ (build_cage vert points x y).edge)
+  unfolding build_cage said filled
+  build_refused r e = rw (← e, ne_eqb (refused r).number 0 (refused_number r)) (refl, refl, refl)

@@ -55,14 +55,12 @@ pub fn child(old: Cells, ancestor: usize, halfedge: usize, level: HalfedgeTable)
         let of = halfedge - corners;
         return inside(old, 3 * of + 1, of, level);
     }
-    if halfedge % 3 == 0 {
-        return outer_half(old, above);
+    let of = halfedge / 3;
+    match halfedge % 3 {
+        0 => outer_half(old, above),
+        1 => inside(old, corners + of, of, level),
+        _ => inner_half(old, above, level.vertices),
     }
-    if halfedge % 3 == 1 {
-        let of = halfedge / 3;
-        return inside(old, corners + of, of, level);
-    }
-    inner_half(old, above, level.vertices)
 }
 
 // The half of an old halfedge that leaves its vertex.

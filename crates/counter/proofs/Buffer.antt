@@ -1,6 +1,7 @@
 -- A buffer that holds more than the longest question holds enough of any text: its bytes get the reply that the whole text gets
 -- (`front-counted`). Assumes nothing.
 use Prim.Native.Nat.{ℕ, ◌+◌, ◌≤◌, ◌<◌}
+use Rattle.std.specs.Prelude.{Option, None}
 use mathlib.Core.Path.{◌≡◌, refl, sym, ap, ◌∙◌}
 use mathlib.Core.List.{List}
 use native.Mathlib.Decide.{dec_lt}
@@ -14,16 +15,15 @@ use Rattle.text.specs.Lines.{space, newline}
 use Rattle.text.specs.Numbers.{number_at}
 use Rattle.text.proofs.Numerals.{Soon, found_soon}
 use Rattle.counter.specs.declared.question.Question.{Question}
-use Rattle.counter.specs.declared.question.Question.TheVariants.{Unasked}
 use Rattle.counter.specs.Counting.{with_number, asked, reply_to, count_reply}
 use Rattle.counter.specs.Internal.Buffer.{longest}
 
 -- a question that goes on where a number ends, wherever that is, is none
-unasked : (at : ℕ) (r : Number) (next : ℕ → ℕ → Question) → Soon at r → ((value i : ℕ) → i ≤ at + 21 → next value i ≡ Unasked) → with_number r next ≡ Unasked
+unasked : (at : ℕ) (r : Number) (next : ℕ → ℕ → Option Question) → Soon at r → ((value i : ℕ) → i ≤ at + 21 → next value i ≡ None) → with_number r next ≡ None
 unasked at Missing next s f = refl
 unasked at (Found value i) next s f = f value i s
 
-too_long : (text : List ℕ) → longest < length text → asked text ≡ Unasked
+too_long : (text : List ℕ) → longest < length text → asked text ≡ None
 unfolding asked
 too_long text l =
     unasked 0 (number_at text 0 space) _ (found_soon text 0 space) (λ _ i li.

@@ -9,7 +9,7 @@ ghost use Rattle.counter.specs.Counting.{count_line, count_lines, counting, coun
 
 use crate::question;
 use crate::question::Question;
-use halfedges::table::{HalfedgeTable, Levels};
+use halfedges::table::Levels;
 use text::replies::Written;
 use text::{lines, replies};
 
@@ -26,42 +26,27 @@ fn count_into(text: &[u8], out: &mut [u8]) -> Written
     requires { 1024 ≤ length out.old }
     ensures { Replied out.old 1024 (count_reply text.now) out.new result }
 {
-    let question = question::ask(text);
-    let Question::Asked {
-        halfedges,
-        edges,
-        vertices,
-        depth,
-    } = question
-    else {
-        return replies::put_misuse(
+    match question::ask(text) {
+        Some(question) => put_counting(&mut *out, question),
+        None => replies::put_misuse(
             &mut *out,
             b"ryebadger: a count question is H E V DEPTH on one line, each at most 18446744073709551615 in at most 20 digits",
-        );
-    };
-    let table = HalfedgeTable {
-        halfedges,
-        edges,
-        vertices,
-    };
-    put_counting(&mut *out, table, depth)
+        ),
+    }
 }
 
 // The answer to the count question, or its refusal.
-fn put_counting(out: &mut [u8], table: HalfedgeTable, depth: usize) -> Written
+fn put_counting(out: &mut [u8], question: Question) -> Written
     requires { 1024 ≤ length out.old }
-    ensures { Replied out.old 1024 (counting table depth) out.new result }
+    ensures { Replied out.old 1024 (counting question.table question.depth) out.new result }
 {
-    let counted = table.count(depth);
-    let answer = counted.answer;
-    if answer.number() != 0 {
-        return replies::put_refusal(&mut *out, answer);
-    }
-    let levels = counted.levels;
-    let length = put_levels(&mut *out, levels, depth);
-    Written {
-        status: replies::ANSWERED,
-        length,
+    let depth = question.depth;
+    match question.table.count(depth) {
+        Ok(levels) => Written {
+            status: replies::ANSWERED,
+            length: put_levels(&mut *out, levels, depth),
+        },
+        Err(refusal) => replies::put_refusal(&mut *out, refusal),
     }
 }
 

@@ -1,5 +1,4 @@
 -- A level's cells in their two parts: those that come of the cage's edges, and then zeros. Assumes nothing.
---     source_in                  the edge that a half comes of
 --     zeros                      a table of zeros
 --     halves_then_zeros          the two parts, written one after the other, are the level's cells
 use Prim.Native.Nat.{ℕ, zero, suc, ◌+◌, ◌-◌, ◌*◌, ◌/◌, ◌^◌, ◌≤◌, ◌<◌}
@@ -19,9 +18,6 @@ use Rattle.creases.specs.Internal.Writing.{left_at, Fitting}
 use Rattle.creases.proofs.Table.{past}
 
 module _ (creases : List ℕ) (d i : ℕ) where
-  pub source_in : i < length creases * 2 ^ d → i / 2 ^ d < length creases
-  source_in l = (div-lt_iff_lt-mul {k = 2 ^ d} {x = i} {y = length creases} (pow_pos d)).1 l
-
   past_halves : length creases * 2 ^ d ≤ i → left_at creases d i ≡ 0
   past_halves l = rw (past creases (i / 2 ^ d) (by (dec_lt (i / 2 ^ d) (length creases)))) (omega arith)
     where

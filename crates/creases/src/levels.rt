@@ -1,5 +1,5 @@
 // The levels of the crease table, end to end.
-ghost use Rattle.std.specs.Prelude.{◌≡◌, suc, ◌-◌, ◌*◌, ◌^◌, ◌≤◌, length, replicate};
+ghost use Rattle.std.specs.Prelude.{◌≡◌, suc, ◌-◌, ◌*◌, ◌^◌, ◌≤◌, length};
 ghost use Rattle.laws.specs.Below.{tabulate, end_to_end};
 ghost use Rattle.laws.specs.Parts.{in_front};
 ghost use Rattle.laws.specs.Internal.Parts.{splice};
@@ -17,12 +17,10 @@ pub fn write_creases(creases: &[u8], cage: HalfedgeTable, depth: usize, lent: &m
 {
     let mut table = cage;
     let mut at = 0;
-    let mut level = 0;
-    while level <= depth {
+    for level in 0..=depth {
         write_level(creases, level, at, table.edges, lent);
         at += table.edges;
         table = table.finer();
-        level += 1;
     }
 }
 
@@ -34,7 +32,7 @@ fn write_level(creases: &[u8], level: usize, at: usize, edges: usize, lent: &mut
     let across = at + (creases.len() << level);
     let end = at + edges;
     write_halves(creases, level, &mut lent[at..across]);
-    clear(&mut lent[across..end]);
+    lent[across..end].fill(0);
 }
 
 // Writes what is left of each number to the edges that its edge was halved into.
@@ -51,17 +49,5 @@ fn write_halves(creases: &[u8], level: usize, halves: &mut [u8])
 fn left_over(number: u8, level: usize) -> u8
     ensures { result ≡ number - level }
 {
-    if number as usize <= level {
-        return 0;
-    }
-    (number as usize - level) as u8
-}
-
-// Writes 0 to every cell.
-fn clear(cells: &mut [u8])
-    ensures { cells.new ≡ replicate (length cells.old) 0 }
-{
-    for place in 0..cells.len() {
-        cells[place] = 0;
-    }
+    (number as usize).saturating_sub(level) as u8
 }

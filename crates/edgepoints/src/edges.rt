@@ -8,7 +8,7 @@ ghost use Rattle.edgepoints.specs.Internal.Edges.{middle, start, finish, meeting
 ghost use Rattle.edgepoints.specs.Internal.Edges.{corner_of, between, triangle_of, border_among};
 
 use halfedges::table::HalfedgeTable;
-use points::cells::{point_of, put_point};
+use points::cells::{change_point, point_of};
 use points::rules::{border_edge, border_vertex, finished_edge, started_edge};
 
 // A corner of a triangle: its vertex, and where that is.
@@ -37,56 +37,24 @@ struct Triangle {
     third: Halfedge,
 }
 
-// Coordinate k of the part that the lower halfedge has in the point of an inner edge.
-fn started_at(halfedge: Halfedge, k: usize) -> i32
-    requires { (Spanned halfedge) × (k < 3) }
-    ensures { result ≡ start halfedge k }
-{
-    let a = halfedge.from.point;
-    let b = halfedge.to.point;
-    let c = halfedge.opposite.point;
-    started_edge(a[k], b[k], c[k])
-}
-
 // The part of the lower halfedge in the point of an inner edge.
 fn start_edge(points: &mut [i32], to: usize, halfedge: Halfedge)
     requires { (Spanned halfedge) × (to + 2 < length points.old) }
     ensures { points.new ≡ put to (start halfedge) points.old }
 {
-    let x = started_at(halfedge, 0);
-    let y = started_at(halfedge, 1);
-    let z = started_at(halfedge, 2);
-    put_point(&mut *points, to, x, y, z);
+    let a = halfedge.from.point;
+    let b = halfedge.to.point;
+    let c = halfedge.opposite.point;
+    change_point(points, to, |_, k| started_edge(a[k], b[k], c[k]));
 }
 
-// Coordinate k of the point of an inner edge, which the higher halfedge makes of what the lower one left.
-fn finished_at(points: &[i32], to: usize, halfedge: Halfedge, k: usize) -> i32
-    requires { (AsksFinish halfedge to points.now) × (k < 3) }
-    ensures { result ≡ finish halfedge points.now to k }
-{
-    let d = halfedge.opposite.point;
-    finished_edge(points[to + k], d[k])
-}
-
-// The part of the higher halfedge in the point of an inner edge.
+// The part of the higher halfedge in the point of an inner edge, which it makes of what the lower one left.
 fn finish_edge(points: &mut [i32], to: usize, halfedge: Halfedge)
     requires { AsksFinish halfedge to points.old }
     ensures { points.new ≡ put to (finish halfedge points.old to) points.old }
 {
-    let x = finished_at(&*points, to, halfedge, 0);
-    let y = finished_at(&*points, to, halfedge, 1);
-    let z = finished_at(&*points, to, halfedge, 2);
-    put_point(&mut *points, to, x, y, z);
-}
-
-// Coordinate k of the middle between a corner and its neighbour.
-fn middle_at(corner: Corner, neighbour: Corner, k: usize) -> i32
-    requires { (Near corner.point) × (Near neighbour.point) × (k < 3) }
-    ensures { result ≡ middle corner neighbour k }
-{
-    let a = corner.point;
-    let b = neighbour.point;
-    border_edge(a[k], b[k])
+    let d = halfedge.opposite.point;
+    change_point(points, to, |sum, k| finished_edge(sum, d[k]));
 }
 
 // The middle between a corner and its neighbour: the point of a border edge, and of any crease.
@@ -94,32 +62,20 @@ pub fn put_middle(points: &mut [i32], to: usize, corner: Corner, neighbour: Corn
     requires { AsksMeet corner neighbour to points.old }
     ensures { points.new ≡ put to (middle corner neighbour) points.old }
 {
-    let x = middle_at(corner, neighbour, 0);
-    let y = middle_at(corner, neighbour, 1);
-    let z = middle_at(corner, neighbour, 2);
-    put_point(&mut *points, to, x, y, z);
+    let a = corner.point;
+    let b = neighbour.point;
+    change_point(points, to, |_, k| border_edge(a[k], b[k]));
 }
 
-// Coordinate k of the new place of a vertex with two creases, as those on a border, that meets a neighbour.
-fn met_at(points: &[i32], to: usize, corner: Corner, neighbour: Corner, k: usize) -> i32
-    requires { (AsksMeet corner neighbour to points.now) × (k < 3) }
-    ensures { result ≡ meeting corner neighbour points.now to k }
-{
-    let v = corner.point;
-    let a = neighbour.point;
-    border_vertex(points[to + k], v[k], a[k])
-}
-
-// A vertex with two creases meets a neighbour along one of them.
+// A vertex with two creases, as those on a border, meets a neighbour along one of them.
 pub fn meet_one(points: &mut [i32], vertices: usize, corner: Corner, neighbour: Corner)
     requires { AsksMeet corner neighbour (3 * vertices + 3 * corner.vertex) points.old }
     ensures { points.new ≡ meet vertices corner neighbour points.old }
 {
     let to = 3 * vertices + 3 * corner.vertex as usize;
-    let x = met_at(&*points, to, corner, neighbour, 0);
-    let y = met_at(&*points, to, corner, neighbour, 1);
-    let z = met_at(&*points, to, corner, neighbour, 2);
-    put_point(&mut *points, to, x, y, z);
+    let v = corner.point;
+    let a = neighbour.point;
+    change_point(points, to, |now, k| border_vertex(now, v[k], a[k]));
 }
 
 // The part of a halfedge without twin.
@@ -129,14 +85,9 @@ fn put_border(points: &mut [i32], vertices: usize, halfedge: Halfedge)
 {
     let a = halfedge.from;
     let b = halfedge.to;
-    put_middle(
-        &mut *points,
-        6 * vertices + 3 * halfedge.edge as usize,
-        a,
-        b,
-    );
-    meet_one(&mut *points, vertices, a, b);
-    meet_one(&mut *points, vertices, b, a);
+    put_middle(points, 6 * vertices + 3 * halfedge.edge as usize, a, b);
+    meet_one(points, vertices, a, b);
+    meet_one(points, vertices, b, a);
 }
 
 // The part of a halfedge that has a twin.
@@ -146,10 +97,10 @@ fn step_inner(points: &mut [i32], vertices: usize, halfedge: Halfedge)
 {
     let to = 6 * vertices + 3 * halfedge.edge as usize;
     if (halfedge.twin as usize) < halfedge.number {
-        finish_edge(&mut *points, to, halfedge);
+        finish_edge(points, to, halfedge);
         return;
     }
-    start_edge(&mut *points, to, halfedge);
+    start_edge(points, to, halfedge);
 }
 
 // The part of any halfedge.
@@ -158,10 +109,10 @@ fn step_edge(points: &mut [i32], vertices: usize, halfedge: Halfedge)
     ensures { points.new ≡ step_edge vertices halfedge points.old }
 {
     if halfedge.twin == HalfedgeTable::NO_TWIN {
-        put_border(&mut *points, vertices, halfedge);
+        put_border(points, vertices, halfedge);
         return;
     }
-    step_inner(&mut *points, vertices, halfedge);
+    step_inner(points, vertices, halfedge);
 }
 
 // The corner that a halfedge leaves.
@@ -228,9 +179,9 @@ fn write_any(points: &mut [i32], vertices: usize, triangle: Triangle)
     requires { AskedInTurn (Asks vertices) (step_edge vertices) triangle points.old }
     ensures { points.new ≡ in_turn (step_edge vertices) triangle points.old }
 {
-    step_edge(&mut *points, vertices, triangle.first);
-    step_edge(&mut *points, vertices, triangle.second);
-    step_edge(&mut *points, vertices, triangle.third);
+    step_edge(points, vertices, triangle.first);
+    step_edge(points, vertices, triangle.second);
+    step_edge(points, vertices, triangle.third);
 }
 
 // A triangle's part in the points of its edges, where none of them is a border.
@@ -238,22 +189,18 @@ fn write_inner(points: &mut [i32], vertices: usize, triangle: Triangle)
     requires { AskedInTurn (AsksInner vertices) (inner_edge vertices) triangle points.old }
     ensures { points.new ≡ in_turn (inner_edge vertices) triangle points.old }
 {
-    step_inner(&mut *points, vertices, triangle.first);
-    step_inner(&mut *points, vertices, triangle.second);
-    step_inner(&mut *points, vertices, triangle.third);
+    step_inner(points, vertices, triangle.first);
+    step_inner(points, vertices, triangle.second);
+    step_inner(points, vertices, triangle.third);
 }
 
 // Whether one of a triangle's halfedges has no twin.
 fn border_among(triangle: Triangle) -> bool
     ensures { result ≡ border_among triangle }
 {
-    if triangle.first.twin == HalfedgeTable::NO_TWIN {
-        return true;
-    }
-    if triangle.second.twin == HalfedgeTable::NO_TWIN {
-        return true;
-    }
-    triangle.third.twin == HalfedgeTable::NO_TWIN
+    triangle.first.twin == HalfedgeTable::NO_TWIN
+        || triangle.second.twin == HalfedgeTable::NO_TWIN
+        || triangle.third.twin == HalfedgeTable::NO_TWIN
 }
 
 // A triangle's part in the points of its edges. Few triangles lie on a border: the rest go by shorter code, of which the compiler
@@ -272,12 +219,12 @@ fn write_triangle(
     ensures { points.new ≡ in_turn (step_edge vertices)
         (triangle_of twin.now vert.now edge.now points.old triangle) points.old }
 {
-    let read = read_triangle(twin, vert, edge, &*points, triangle);
+    let read = read_triangle(twin, vert, edge, points, triangle);
     if border_among(read) {
-        write_any(&mut *points, vertices, read);
+        write_any(points, vertices, read);
         return;
     }
-    write_inner(&mut *points, vertices, read);
+    write_inner(points, vertices, read);
 }
 
 // The points of all edges, and V.2 at the border: the part of every halfedge, triangle by triangle.
@@ -288,10 +235,7 @@ pub fn write_edges(twin: &[u32], vert: &[u32], edge: &[u32], points: &mut [i32],
     ensures { points.new ≡ steps (length vert.now)
         (put_edge twin.now vert.now edge.now vertices points.old) points.old }
 {
-    let triangles = vert.len() / 3;
-    let mut triangle = 0;
-    while triangle < triangles {
-        write_triangle(twin, vert, edge, &mut *points, vertices, triangle);
-        triangle += 1;
+    for triangle in 0..vert.len() / 3 {
+        write_triangle(twin, vert, edge, points, vertices, triangle);
     }
 }

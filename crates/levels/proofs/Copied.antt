@@ -1,5 +1,5 @@
--- A cage copied to the front of the lent tables: it fits (`cage_short`), stands there (`cage_there`) and can be refined in place
--- (`copied_refinable`), and its levels cover it (`levels_over`). Assumes nothing.
+-- A cage copied to the front of the lent tables: it fits (`cage_short`), stands there (`cage_there`), and its levels cover it
+-- (`levels_over`). Assumes nothing.
 use Prim.Native.Nat.{ℕ, suc, ◌≤◌}
 use mathlib.Core.Path.{◌≡◌}
 use mathlib.Core.List.{List}
@@ -45,18 +45,6 @@ module _ {t : HalfedgeTable} {depth : ℕ} {c x : Tables} (r : Refinable t depth
   pub cage_there : level_at t 0 (tables_in_front c x) ≡ c
   unfolding tables_in_front
   cage_there = λ i. tables (there c.twin x.twin s.twin_long i) (there c.vert x.vert s.vert_long i) (there c.edge x.edge s.edge_long i)
-
-  pub copied_refinable : Refinable t depth (level_at t 0 (tables_in_front c x)) (tables_in_front c x)
-  unfolding tables_in_front
-  copied_refinable =
-      record {
-        sound = rw cage_there s;
-        small = r.small;
-        shallow = r.shallow;
-        twin_room = room c.twin x.twin s.twin_long r.twin_room;
-        vert_room = room c.vert x.vert s.vert_long r.vert_room;
-        edge_room = room c.edge x.edge s.edge_long r.edge_room;
-      }
 
   -- a cage's table is no longer than the lent one
   pub cage_short : (length c.twin ≤ length x.twin) × (length c.vert ≤ length x.vert) × (length c.edge ≤ length x.edge)

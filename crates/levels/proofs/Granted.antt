@@ -2,7 +2,7 @@
 -- verdict of refining the tables leaves of these and of the lent tables: `all_granted`, `all_refinable`; and the outcome:
 -- `refine_refused`, `refine_done`. Assumes nothing.
 use Prim.Native.Nat.{ℕ, ◌≤◌}
-use mathlib.Core.Path.{◌≡◌, refl, sym, ap, ◌∙◌}
+use mathlib.Core.Path.{◌≡◌, refl, sym, ap}
 use mathlib.Core.List.{List}
 use native.Mathlib.Omega.{arith}
 use lib.Dec.{ltb}

@@ -32,12 +32,10 @@ pub fn fill_levels(
 {
     let mut table = cage;
     let mut at = 0;
-    let mut filled = 0;
-    while filled < depth {
+    for filled in 0..depth {
         level::next_level(twin, vert, edge, at, table);
         at += table.halfedges;
         table = table.finer();
-        filled += 1;
     }
 }
 
@@ -156,7 +154,5 @@ pub fn copy(from: &[u32], to: &mut [u32])
     requires { length from.now ≤ length to.old }
     ensures { to.new ≡ in_front from.now to.old }
 {
-    for place in 0..from.len() {
-        to[place] = from[place];
-    }
+    to[..from.len()].copy_from_slice(from);
 }

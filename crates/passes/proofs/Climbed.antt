@@ -109,10 +109,10 @@ module _ (w : Weight) (t : HalfedgeTable) (depth : ℕ) (lent : Tables) (creases
       length-append (point_levels w t lent creases points (suc d)) (drop (length (point_levels w t lent creases points (suc d))) points)
       ∙ omega (arith, length-drop (length (point_levels w t lent creases points (suc d))) points, levels_long (suc d), room_for (suc d) (omega arith))
 
-  pub climb_start : {x : Level} {d : ℕ} → x ≡ cage_level t depth → d ≡ 0 → Stands w t depth lent creases points d x points
+  pub climb_start : {x : Level} → x ≡ cage_level t depth → Stands w t depth lent creases points 0 x points
   unfolding with_levels level_points counts_at
-  climb_start e z =
-      rw (e, z)
+  climb_start e =
+      rw e
       (record { is_number = refl; is_left = omega arith; is_before = refl; is_counts = refl; is_start = refl; is_at = refl; is_table = sym (rw cage_long (take-append-drop (3 * t.vertices) points)) })
 
   module _ (d : ℕ) where
@@ -280,9 +280,9 @@ module _ (w : Weight) (t : HalfedgeTable) (depth : ℕ) (lent : Tables) (creases
           at = omega (arith, climb_end);
         }
 
-    pub climb_on : {y : Level} {r : List ℤ} {d' : ℕ} → y ≡ next_level x → r ≡ with_next_at w x lent (creases_at t creases x.number) q → d' ≡ d + 1 → Stands w t depth lent creases points d' y r
-    climb_on e f z =
-        rw (e, z)
+    pub climb_on : {y : Level} {r : List ℤ} → y ≡ next_level x → r ≡ with_next_at w x lent (creases_at t creases x.number) q → Stands w t depth lent creases points (d + 1) y r
+    climb_on e f =
+        rw e
         (record {
           is_number = omega (arith, stands.is_number);
           is_left = omega (arith, stands.is_left);

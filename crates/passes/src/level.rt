@@ -56,8 +56,8 @@ pub fn next_points(
         points.old }
 {
     let vertices = level.counts.vertices;
-    clear_sums(&mut *points, vertices);
-    gather(vert, &mut *points, vertices, level.before);
-    settle_vertices(weight, own, &mut *points, vertices);
-    write_edges(twin, vert, edge, &mut *points, vertices);
+    clear_sums(points, vertices);
+    gather(vert, points, vertices, level.before);
+    settle_vertices(weight, own, points, vertices);
+    write_edges(twin, vert, edge, points, vertices);
 }

@@ -114,9 +114,9 @@ fn refine_level(
     ensures { points.new ≡ with_next_at weight level (tables twin.now vert.now edge.now)
         (creases_at cage creases.now level.number) points.old }
 {
-    smooth_level(weight, own, level, twin, vert, edge, &mut *points);
+    smooth_level(weight, own, level, twin, vert, edge, points);
     if any_sharp(creases, level.number) {
-        count_and_draw(cage, creases, level, twin, vert, edge, &mut *points);
+        count_and_draw(cage, creases, level, twin, vert, edge, points);
     }
 }
 
@@ -137,7 +137,7 @@ fn climb(
         (tables twin.now vert.now edge.now) creases.now points.old }
 {
     let mut level = cage;
-    while level.left > 0 {
+    for _ in 0..cage.left {
         refine_level(
             weight,
             own,
@@ -147,7 +147,7 @@ fn climb(
             twin,
             vert,
             edge,
-            &mut *points,
+            points,
         );
         level = level.next();
     }

@@ -1,4 +1,4 @@
--- What stores leave in the other cells (`Only`), and in the three cells of a point (`put_hit`, `put_only`); numbers are stored
+-- What stores leave in the other cells (`Only`), and in the three cells of a point (`put_hit`, `put_only`, `changed_is`); numbers are stored
 -- as they are (`near_stored`, `near_kept`, `put_stored`). Assumes nothing.
 use Prim.Native.Nat.{ℕ, zero, suc, ◌+◌, ◌^◌, ◌≤◌, ◌<◌}
 use mathlib.Core.Path.{◌≡◌, refl, sym, ◌∙◌}
@@ -16,7 +16,7 @@ use Rattle.laws.specs.Internal.Steps.{steps}
 use Rattle.laws.proofs.Integers.{small_fits, back_of}
 use Rattle.laws.proofs.Steps.{steps_keep}
 use Rattle.points.specs.Operations.{most_coordinate}
-use Rattle.points.specs.Internal.Cells.{value, put, xyz, Near}
+use Rattle.points.specs.Internal.Cells.{value, put, xyz, Changed, Near}
 
 -- a law of a point's three coordinates
 pub three : (P : ℕ → Type 0) → P 0 → P 1 → P 2 → (k : ℕ) → k < 3 → P k
@@ -90,6 +90,12 @@ module _ (to : ℕ) (g : ℕ → ℤ) (l : List ℤ) where
 pub put_same : (to : ℕ) (f g : ℕ → ℤ) (l : List ℤ) → f 0 ≡ g 0 → f 1 ≡ g 1 → f 2 ≡ g 2 → put to f l ≡ put to g l
 unfolding put
 put_same to f g l x y z = rw (x, y, z)
+
+-- three numbers that each became what a function has
+pub changed_is : {became : ℤ → ℕ → ℤ → Type 0} {to : ℕ} {l m : List ℤ} (g : ℕ → ℤ) → Changed became to l m → ((k : ℕ) → k < 3 → (z : ℤ) → became (value l (to + k)) k z → z ≡ g k) → m ≡ put to g l
+changed_is {to = to} {l = l} g c same =
+    let at : (k : ℕ) → k < 3 → c.to k ≡ g k = λ k b. same k b (c.to k) (c.each k b) in
+    c.others ∙ put_same to c.to g l (at 0 (omega arith)) (at 1 (omega arith)) (at 2 (omega arith))
 
 -- a number as a cell has it
 abbrev pub stored : ℤ → ℤ

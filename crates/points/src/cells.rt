@@ -1,7 +1,7 @@
 // Cells of the lent points.
-ghost use Rattle.std.specs.Prelude.{◌≡◌, ◌+◌, ◌*◌, ◌<◌, length};
+ghost use Rattle.std.specs.Prelude.{◌≡◌, ℕ, ◌+◌, ◌*◌, ◌<◌, length};
 ghost use Rattle.points.specs.NextPoints.{point_of};
-ghost use Rattle.points.specs.Internal.Cells.{put, xyz};
+ghost use Rattle.points.specs.Internal.Cells.{value, put, xyz, Changed};
 
 // Coordinates x, y, z are stored from a cell on.
 pub fn put_point(points: &mut [i32], to: usize, x: i32, y: i32, z: i32)
@@ -11,6 +11,19 @@ pub fn put_point(points: &mut [i32], to: usize, x: i32, y: i32, z: i32)
     points[to] = x;
     points[to + 1] = y;
     points[to + 2] = z;
+}
+
+// Each of the three coordinates from a cell on becomes what f makes of it and of its number. All three are worked out before the
+// first is stored.
+pub fn change_point<F: Fn(i32, usize) -> i32>(points: &mut [i32], to: usize, f: F)
+    requires room { to + 2 < length points.old }
+    requires callable { (k : ℕ) → k < 3 → F.pre f (value points.old (to + k)) k }
+    ensures { Changed (F.post f) to points.old points.new }
+{
+    let x = f(points[to], 0);
+    let y = f(points[to + 1], 1);
+    let z = f(points[to + 2], 2);
+    put_point(points, to, x, y, z);
 }
 
 // A vertex's point.

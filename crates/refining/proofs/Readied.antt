@@ -1,7 +1,7 @@
 -- The crease table has room for its levels (`writable`); the tables of all levels, and a table with the cage's points in front, are ready
 -- for the points of all levels (`readied`); these are the outcome (`outcome`). Assumes nothing.
 use Prim.Native.Nat.{ℕ, suc, ◌*◌, ◌≤◌}
-use mathlib.Core.Path.{◌≡◌, sym, subst, ◌∙◌}
+use mathlib.Core.Path.{◌≡◌, sym, ap, subst, ◌∙◌}
 use mathlib.Core.List.{List}
 use native.Mathlib.Omega.{arith}
 use lib.IntN.{ℤ}
@@ -15,8 +15,8 @@ use Rattle.laws.proofs.Sums.{sum_grows}
 use Rattle.laws.proofs.EndToEnd.{part_of, starts_within, length_multiples}
 use Rattle.halfedges.specs.declared.table.HalfedgeTable.{HalfedgeTable}
 use Rattle.halfedges.specs.declared.table.Levels.{Levels}
-use Rattle.halfedges.specs.Refusals.{DONE, first, Said}
-use Rattle.halfedges.specs.Counts.{counts_at, Vs, room_v, count_question}
+use Rattle.halfedges.specs.Refusals.{DONE, first}
+use Rattle.halfedges.specs.Counts.{counts_at, Vs, room_v, levels}
 use Rattle.tables.specs.Tables.{Tables, tables, counts_of}
 use Rattle.tables.specs.Check.{table_checks}
 use Rattle.splitting.specs.NextLevel.{level}
@@ -134,12 +134,12 @@ module _ (w : Weight) (c : Tables) (creases : List ℕ) (points : List ℤ) (dep
       readied = rw (q, p, r) ready
 
       pub outcome :
-          {k : Said Levels} {ps : List ℤ} {cs : List ℕ} → k ≡ count_question u depth → ps ≡ with_levels w u depth y creases z → cs ≡ in_front (end_to_end (suc depth) (creases_at u creases)) xc
-          → (k ≡ (refine_cage w c creases points depth x xp xc).answer)
+          {k : Levels} {ps : List ℤ} {cs : List ℕ} → k ≡ levels u depth → ps ≡ with_levels w u depth y creases z → cs ≡ in_front (end_to_end (suc depth) (creases_at u creases)) xc
+          → (record { verdict = DONE; values = k } ≡ (refine_cage w c creases points depth x xp xc).answer)
           × (y ≡ (refine_cage w c creases points depth x xp xc).lent)
           × (ps ≡ (refine_cage w c creases points depth x xp xc).points)
           × (cs ≡ (refine_cage w c creases points depth x xp xc).creases)
-      outcome f g h =
+      outcome f k h =
           let d = refine_done w c creases points depth x xp xc e in
           let w : y ≡ tables_in_front (levels_end_to_end t c depth) x = rw p at q in
-          (rw p at f ∙ d.0, w ∙ d.1, g ∙ rw (w, p, r) levels_over ∙ d.2, rw p at h ∙ d.3)
+          (ap (λ m. record { verdict = DONE; values = m }) (rw p at f) ∙ sym g.counts ∙ d.0, w ∙ d.1, k ∙ rw (w, p, r) levels_over ∙ d.2, rw p at h ∙ d.3)

@@ -1,10 +1,9 @@
 -- What a cage has where checks 1 to 8, 14 and 15 are done (`whole`, `creased_done`, `tables_done`, `valences_done`, `in_range`,
--- `counts_granted`); the verdict of refining, as the code goes (`cage_refused`, `tables-short`, `points_short`, `creases_short`,
+-- `counts_granted`); the verdict of refining, as the code goes (`tables-short`, `points_short`, `creases_short`,
 -- `all_roomy`); what it leaves where it is done (`both_done`, `all_refinable`, `points_roomy`, `creases_roomy`); and the outcome
 -- (`refine_refused`, `refine_done`). Assumes nothing.
 use Prim.Native.Nat.{ℕ, suc, ◌*◌, ◌%◌, ◌≤◌, ◌<◌}
 use mathlib.Core.Path.{◌≡◌, refl, sym, ap, ◌∙◌}
-use mathlib.Core.Logic.{◌≢◌}
 use mathlib.Core.List.{List, [], ◌∷◌}
 use native.Mathlib.Omega.{arith}
 use lib.Dec.{ltb}
@@ -18,13 +17,13 @@ use Rattle.laws.proofs.Sums.{sum_at_most}
 use Rattle.halfedges.specs.declared.table.HalfedgeTable.{HalfedgeTable}
 use Rattle.halfedges.specs.declared.table.Levels.{Levels}
 use Rattle.halfedges.specs.Cage.{most_halfedges, most_depth}
-use Rattle.halfedges.specs.declared.answer.Answer.{Answer}
-use Rattle.halfedges.specs.Refusals.{Verdict, DONE, SHAPE, POINT, ROOM, told, given, given_at, short, first, said, filled}
+use Rattle.halfedges.specs.declared.refusal.Refusal.{Refusal}
+use Rattle.halfedges.specs.Refusals.{Verdict, DONE, SHAPE, POINT, ROOM, refused, given, given_at, short, first, said, filled}
 use Rattle.halfedges.specs.Internal.Counts.{AtMost, refused_count}
 use Rattle.halfedges.specs.Counts.{Vs, room_h, room_v, room_e, levels, count_question}
 use Rattle.halfedges.proofs.Growth.{levels_at_most}
-use Rattle.halfedges.proofs.Checks.{first_more, first_stops, done_both, done_passes, done_nowhere}
-use Rattle.halfedges.proofs.Told.{zero_done}
+use Rattle.halfedges.proofs.Checks.{first_more, stops_before, done_both, done_passes, done_nowhere}
+use Rattle.halfedges.proofs.Told.{refused_number}
 use Rattle.tables.specs.Tables.{Tables, counts_of}
 use Rattle.tables.specs.Rules.{misshapen}
 use Rattle.levels.specs.Internal.Filling.{tables_in_front, Refinable}
@@ -73,15 +72,6 @@ unfolding levels
 few_vertices t depth a e =
     rw e (omega (arith, sum_at_most (suc depth) 12582912 (Vs t) (λ d m. let b = levels_at_most most_halfedges 6 t a.0 d (omega (arith, a.1)) in omega (arith, b.vertices))))
 
--- a tells the first of 1 to 8
-module _ (w : Weight) (c : Tables) (creases : List ℕ) (points : List ℤ) (depth : ℕ) (a : Answer) {n : ℕ} (e : told a ≡ first (refine_checks w c creases points depth)) (m : n ≡ (told a).number) where
-  pub cage_refused : (x : Tables) (xp : List ℤ) (xc : List ℕ) → n ≢ 0 → told a ≡ refine_verdict w c creases points depth x xp xc
-  unfolding refine_verdict
-  cage_refused x xp xc r = first_stops _ _ (told a) e (λ z. r (m ∙ z))
-
-  pub cage_done : n ≡ 0 → first (refine_checks w c creases points depth) ≡ DONE
-  cage_done z = sym e ∙ zero_done a (sym m ∙ z)
-
 -- what then holds of the counts
 pub counts_granted : (w : Weight) (c : Tables) (creases : List ℕ) (points : List ℤ) (depth : ℕ) → first (refine_checks w c creases points depth) ≡ DONE → {u : HalfedgeTable} → u ≡ counts_of c (vertices points) → AtMost most_halfedges u × depth ≤ most_depth
 counts_granted w c creases points depth d p = let g = granted c (vertices points) depth (tables_done w c creases points depth d) in rw p (g.small, g.shallow)
@@ -93,19 +83,16 @@ module _ (w : Weight) (c : Tables) (creases : List ℕ) (points : List ℤ) (dep
   abbrev last : List Verdict
   last = short 4 (3 * room_v (counts_of c (vertices points)) depth) (length xp) ∷ short 7 (room_e (counts_of c (vertices points)) depth) (length xc) ∷ []
 
-  -- where 1 to 8 pass, b tells the first short table of the three, with the counts as the code has them
-  module _ (d : first (refine_checks w c creases points depth) ≡ DONE) {u : HalfedgeTable} (p : u ≡ counts_of c (vertices points)) (b : Answer) {n : ℕ} (e : told b ≡ first (short_tables (room_h u depth) x)) (m : n ≡ (told b).number) where
-    short-told : told b ≡ first rooms
-    short-told = e ∙ ap (λ (t : HalfedgeTable). first (short_tables (room_h t depth) x)) p
-
-    pub tables-short : n ≢ 0 → told b ≡ refine_verdict w c creases points depth x xp xc
+  -- where 1 to 8 pass, the first short table of the three, with the counts as the code has them
+  module _ (d : first (refine_checks w c creases points depth) ≡ DONE) {u : HalfedgeTable} (p : u ≡ counts_of c (vertices points)) where
+    pub tables-short : (r : Refusal) → refused r ≡ first (short_tables (room_h u depth) x) → refused r ≡ refine_verdict w c creases points depth x xp xc
     unfolding refine_verdict short_lent
-    tables-short r = first_stops rooms last (told b) short-told (λ z. r (m ∙ z)) ∙ sym (first_more (refine_checks w c creases points depth) _ d)
+    tables-short r e = stops_before rooms last r (rw p at e) ∙ sym (first_more (refine_checks w c creases points depth) _ d)
 
-    module _ (z : n ≡ 0) {l : Levels} (q : l ≡ levels u depth) where
+    module _ (z : DONE ≡ first (short_tables (room_h u depth) x)) {l : Levels} (q : l ≡ levels u depth) where
       room_left : first last ≡ refine_verdict w c creases points depth x xp xc
       unfolding refine_verdict short_lent
-      room_left = sym (first_more (refine_checks w c creases points depth) _ d ∙ first_more rooms last (sym short-told ∙ zero_done b (sym m ∙ z)))
+      room_left = sym (first_more (refine_checks w c creases points depth) _ d ∙ first_more rooms last (sym (rw p at z)))
 
       point_room : l.vertex_room ≡ room_v (counts_of c (vertices points)) depth
       unfolding levels
@@ -165,11 +152,13 @@ module _ (w : Weight) (c : Tables) (creases : List ℕ) (points : List ℤ) (dep
     unfolding refine_cage said filled_tables filled tables_in_front
     refine_done = rw (e, (granted c (vertices points) depth (tables_done w c creases points depth both_done.0)).counts) (refl, refl, refl, refl)
 
-  -- a tells the verdict
-  module _ (a : Answer) {n : ℕ} (e : told a ≡ refine_verdict w c creases points depth x xp xc) (m : n ≡ (told a).number) where
-    pub told_done : n ≡ 0 → refine_verdict w c creases points depth x xp xc ≡ DONE
-    told_done z = sym e ∙ zero_done a (sym m ∙ z)
-
-    pub refine_refused : n ≢ 0 → (refused_count (told a) ≡ (refine_cage w c creases points depth x xp xc).answer) × (x ≡ (refine_cage w c creases points depth x xp xc).lent) × (xp ≡ (refine_cage w c creases points depth x xp xc).points) × (xc ≡ (refine_cage w c creases points depth x xp xc).creases)
-    unfolding refine_cage said filled_tables filled
-    refine_refused r = rw (← e, ne_eqb (told a).number 0 (λ z. r (m ∙ z))) (refl, refl, refl, refl)
+  -- a refusal tells the verdict
+  pub refine_refused :
+      (r : Refusal)
+      → refused r ≡ refine_verdict w c creases points depth x xp xc
+      → (refused_count (refused r) ≡ (refine_cage w c creases points depth x xp xc).answer)
+      × (x ≡ (refine_cage w c creases points depth x xp xc).lent)
+      × (xp ≡ (refine_cage w c creases points depth x xp xc).points)
+      × (xc ≡ (refine_cage w c creases points depth x xp xc).creases)
+  unfolding refine_cage said filled_tables filled
+  refine_refused r e = rw (← e, ne_eqb (refused r).number 0 (refused_number r)) (refl, refl, refl, refl)

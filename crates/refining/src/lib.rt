@@ -9,8 +9,8 @@ ghost use Rattle.tables.specs.Tables.{tables};
 ghost use Rattle.points.specs.Operations.{refine_verdict, refine_cage};
 
 use creases::levels::write_creases;
-use halfedges::answer::Answer;
-use halfedges::table::Counted;
+use halfedges::refusal::Refusal;
+use halfedges::table::Levels;
 use levels::refine::{counts_of, fill, short_levels};
 use passes::refine::refine_points;
 use points::weights::Weight;
@@ -30,14 +30,14 @@ pub fn refine(
     edge: &mut [u32],
     points: &mut [i32],
     creases: &mut [u8],
-) -> Counted
+) -> Result<Levels, Refusal>
     ensures { let after = refine_cage weight (tables cage_twin.now cage_vert.now cage_edge.now)
         cage_creases.now cage_points.now depth
         (tables twin.old vert.old edge.old) points.old creases.old in
         (counted result ≡ after.answer) × (tables twin.new vert.new edge.new ≡ after.lent)
         × (points.new ≡ after.points) × (creases.new ≡ after.creases) }
 {
-    let answer = plan(
+    plan(
         cage_twin,
         cage_vert,
         cage_edge,
@@ -50,16 +50,13 @@ pub fn refine(
         edge,
         points,
         creases,
-    );
-    if answer.number() != 0 {
-        return Counted::refused(answer);
-    }
+    )?;
     let of = counts_of(cage_twin, cage_points.len() / 3);
     fill(cage_twin, cage_vert, cage_edge, of, depth, twin, vert, edge);
     write_creases(cage_creases, of, depth, creases);
     copy(cage_points, points);
     refine_points(weight, of, depth, cage_creases, twin, vert, edge, points);
-    of.count(depth)
+    Ok(of.levels(depth))
 }
 
 // Checks 1 to 8 and 15 of any cage, 14 by the weight chosen, and then the room of the lent tables.
@@ -76,12 +73,12 @@ fn plan(
     edge: &[u32],
     points: &[i32],
     creases: &[u8],
-) -> Answer
+) -> Result<(), Refusal>
     ensures { told result ≡ refine_verdict weight (tables cage_twin.now cage_vert.now cage_edge.now)
         cage_creases.now cage_points.now depth
         (tables twin.now vert.now edge.now) points.now creases.now }
 {
-    let cage = cage::check_for_refining(
+    cage::check_for_refining(
         cage_twin,
         cage_vert,
         cage_edge,
@@ -89,23 +86,17 @@ fn plan(
         cage_creases,
         depth,
         weight,
-    );
-    if cage.number() != 0 {
-        return cage;
-    }
+    )?;
     let of = counts_of(cage_twin, cage_points.len() / 3);
-    let short = short_levels(of, depth, twin, vert, edge);
-    if short.number() != 0 {
-        return short;
-    }
+    short_levels(of, depth, twin, vert, edge)?;
     let levels = of.levels(depth);
     if points.len() < 3 * levels.vertex_room {
-        return Answer::Room(4);
+        return Err(Refusal::Room(4));
     }
     if creases.len() < levels.edge_room {
-        return Answer::Room(7);
+        return Err(Refusal::Room(7));
     }
-    Answer::Done
+    Ok(())
 }
 
 // Copies a cage's points to the front of a table.

@@ -1,33 +1,38 @@
 -- Which edges of a level are inner creases. Assumes nothing.
---     counted_known, added_known      how many creases a vertex has that an inner one leaves
+--     any_listed                      some crease of the cage's list passes a test
 --     outline_is                      how many edges come of the cage's, as the machine shifts
 --     part_below, past_none           an edge among them comes of one of the cage's, and any other is no crease
 --     none_sharp                      none is one where no edge of the cage stays sharp
 --     sharp_is                        the same by the level's own numbers
 use Prim.Native.Nat.{ℕ, zero, suc, ◌-◌, ◌*◌, ◌/◌, ◌%◌, ◌^◌, ◌≤◌, ◌<◌}
-use mathlib.Core.Path.{◌≡◌, refl, sym, ◌∙◌}
-use mathlib.Core.Bool.{false}
+use mathlib.Core.Path.{◌≡◌, refl, sym, ap, ◌∙◌}
+use mathlib.Core.Bool.{Bool, true, false, ◌||◌}
 use mathlib.Core.List.{List, [], ◌∷◌}
 use native.Mathlib.Decide.{dec_lt}
-use native.Mathlib.Nat.{le-div_iff_mul-le, div-lt_iff_lt-mul, not-suc-le-zero, le_of_suc-le-suc}
+use native.Mathlib.Nat.{le-div_iff_mul-le, div-lt_iff_lt-mul}
 use native.Mathlib.Omega.{arith}
 use lib.Dec.{ltb}
 use lib.ListN.{length, get_or-eq_default}
 use lib.Pow.{pow_pos, shl_exact}
 use borrow.Author.Tests.{lt-ltb, le-ltb}
-use Rattle.laws.proofs.Tests.{any_false}
+use Rattle.std.specs.List.{list_any}
+use Rattle.laws.specs.Below.{any}
+use Rattle.laws.proofs.Tests.{any_false, or_false_right}
 use Rattle.halfedges.specs.Cage.{cell}
-use Rattle.points.specs.Internal.Creased.{known_creases}
 use Rattle.seams.specs.Internal.Seams.{stays_sharp, any_sharp, sharp_at, Limited}
 
--- the creases of a vertex that is counted, and of another
-pub counted_known : (counts : List ℕ) (u : ℕ) → u < length counts → known_creases counts u ≡ cell counts u
-counted_known [] u l = absurd (not-suc-le-zero l)
-counted_known (x ∷ counts) zero l = refl
-counted_known (x ∷ counts) (suc u) l = counted_known counts u (le_of_suc-le-suc l)
+-- some of the cage's creases stay sharp where one of the list does
+front : (n : ℕ) (p : ℕ → Bool) → any (suc n) p ≡ p 0 || any n (λ k. p (suc k))
+front zero p = sym (or_false_right (p 0))
+front (suc n) p = ap (λ b. b || p (suc n)) (front n p) ∙ together (p 0) (any n (λ k. p (suc k))) (p (suc n))
+  where
+    together : (a b c : Bool) → ((a || b) || c) ≡ (a || (b || c))
+    together true b c = refl
+    together false b c = refl
 
-pub added_known : (counts : List ℕ) (u : ℕ) → length counts ≤ u → known_creases counts u ≡ 2
-added_known counts u l = get_or-eq_default counts 2 l
+pub any_listed : (test : ℕ → Bool) (xs : List ℕ) → list_any test xs ≡ any (length xs) (λ k. test (cell xs k))
+any_listed test [] = refl
+any_listed test (x ∷ xs) = ap (λ b. test x || b) (any_listed test xs) ∙ sym (front (length xs) (λ k. test (cell (x ∷ xs) k)))
 
 module _ (creases : List ℕ) (level : ℕ) where
   pub outline_is : Limited creases level → (length creases * 2 ^ level) % 18446744073709551616 ≡ length creases * 2 ^ level

@@ -18,11 +18,7 @@ use tables::cells::wide;
 fn known_creases(counts: &[u32], vertex: u32) -> u32
     ensures { result ≡ known_creases counts.now vertex }
 {
-    let place = wide(vertex);
-    if place < counts.len() {
-        return counts[place];
-    }
-    2
+    counts.get(wide(vertex)).copied().unwrap_or(2)
 }
 
 // A vertex stays put.
@@ -32,7 +28,7 @@ fn stay_put(points: &mut [i32], vertices: usize, corner: Corner)
 {
     let to = 3 * vertices + 3 * corner.vertex as usize;
     let point = corner.point;
-    put_point(&mut *points, to, point[0], point[1], point[2]);
+    put_point(points, to, point[0], point[1], point[2]);
 }
 
 // The new place of a vertex with so many creases, of which one goes to a neighbour. With fewer than two it is smooth, as the passes
@@ -45,10 +41,10 @@ fn draw_end(points: &mut [i32], vertices: usize, creases: u32, corner: Corner, n
         return;
     }
     if creases == 2 {
-        meet_one(&mut *points, vertices, corner, neighbour);
+        meet_one(points, vertices, corner, neighbour);
         return;
     }
-    stay_put(&mut *points, vertices, corner);
+    stay_put(points, vertices, corner);
 }
 
 // An inner crease between two corners.
@@ -63,8 +59,8 @@ fn draw_seam(
     requires { AsksSeam vertices edge corner neighbour points.old }
     ensures { points.new ≡ draw_seam vertices edge creases corner neighbour points.old }
 {
-    put_middle(&mut *points, 6 * vertices + 3 * edge, corner, neighbour);
-    draw_end(&mut *points, vertices, creases, corner, neighbour);
+    put_middle(points, 6 * vertices + 3 * edge, corner, neighbour);
+    draw_end(points, vertices, creases, corner, neighbour);
 }
 
 // A halfedge whose edge is an inner crease.
@@ -80,10 +76,10 @@ fn draw_at(
     ensures { points.new ≡ draw_at counts.now vert.now edge.now vertices
         points.old halfedge points.old }
 {
-    let a = read_corner(vert, &*points, halfedge);
-    let b = read_corner(vert, &*points, HalfedgeTable::next(halfedge));
+    let a = read_corner(vert, points, halfedge);
+    let b = read_corner(vert, points, HalfedgeTable::next(halfedge));
     let creases = known_creases(counts, a.vertex);
-    draw_seam(&mut *points, vertices, wide(edge[halfedge]), creases, a, b);
+    draw_seam(points, vertices, wide(edge[halfedge]), creases, a, b);
 }
 
 // A halfedge whose edge comes of an edge of the cage.
@@ -103,7 +99,7 @@ fn draw_part(
         points.old halfedge points.old }
 {
     if stays_sharp(creases, level, wide(edge[halfedge]) >> level) {
-        draw_at(counts, vert, edge, &mut *points, vertices, halfedge);
+        draw_at(counts, vert, edge, points, vertices, halfedge);
     }
 }
 
@@ -126,14 +122,7 @@ fn draw_any(
 {
     if wide(edge[halfedge]) < outline {
         draw_part(
-            creases,
-            level,
-            counts,
-            vert,
-            edge,
-            &mut *points,
-            vertices,
-            halfedge,
+            creases, level, counts, vert, edge, points, vertices, halfedge,
         );
     }
 }
@@ -155,19 +144,9 @@ pub fn draw_seams(
         points.old }
 {
     let outline = creases.len() << level;
-    let mut halfedge = 0;
-    while halfedge < edge.len() {
+    for halfedge in 0..edge.len() {
         draw_any(
-            creases,
-            level,
-            outline,
-            counts,
-            vert,
-            edge,
-            &mut *points,
-            vertices,
-            halfedge,
+            creases, level, outline, counts, vert, edge, points, vertices, halfedge,
         );
-        halfedge += 1;
     }
 }

@@ -9,17 +9,6 @@ use halfedges::table::HalfedgeTable;
 use tables::cells::wide;
 use tables::rules::count_one;
 
-// A tally of zeros.
-fn clear_counts(counts: &mut [u32])
-    ensures { (u : ℕ) → u < length counts.new → cell counts.new u ≡ 0 }
-{
-    let mut vertex = 0;
-    while vertex < counts.len() {
-        counts[vertex] = 0;
-        vertex += 1;
-    }
-}
-
 // A border edge is a crease of both its ends.
 fn count_ends(vert: &[u32], counts: &mut [u32], halfedge: usize)
     requires { (length vert.now % 3 ≡ 0) × (length vert.now ≤ most_halfedges) × (halfedge < length vert.now)
@@ -28,8 +17,8 @@ fn count_ends(vert: &[u32], counts: &mut [u32], halfedge: usize)
 {
     let from = wide(vert[halfedge]);
     let to = wide(vert[HalfedgeTable::next(halfedge)]);
-    count_one(&mut *counts, from);
-    count_one(&mut *counts, to);
+    count_one(counts, from);
+    count_one(counts, to);
 }
 
 // One halfedge: a border edge counts at both its ends, and an inner crease at the start of each of its halfedges.
@@ -48,11 +37,11 @@ fn count_halfedge(
         counts.old counts.new }
 {
     if twin[halfedge] == HalfedgeTable::NO_TWIN {
-        count_ends(vert, &mut *counts, halfedge);
+        count_ends(vert, counts, halfedge);
         return;
     }
     if stays_sharp(creases, level, wide(edge[halfedge])) {
-        count_one(&mut *counts, wide(vert[halfedge]));
+        count_one(counts, wide(vert[halfedge]));
     }
 }
 
@@ -69,10 +58,8 @@ pub fn count_creases(
     ensures { CreasesCounted level (tables twin.now vert.now edge.now) creases.now
         counts.new }
 {
-    clear_counts(&mut *counts);
-    let mut halfedge = 0;
-    while halfedge < vert.len() {
-        count_halfedge(twin, vert, edge, creases, level, &mut *counts, halfedge);
-        halfedge += 1;
+    counts.fill(0);
+    for halfedge in 0..vert.len() {
+        count_halfedge(twin, vert, edge, creases, level, counts, halfedge);
     }
 }

@@ -4,7 +4,6 @@ use Prim.Native.Nat.{ℕ, ◌+◌, ◌-◌, ◌*◌, ◌/◌, ◌%◌, ◌≤◌
 use mathlib.Core.Path.{◌≡◌, refl, sym, ap, subst, ◌∙◌}
 use mathlib.Core.Bool.{true, false}
 use mathlib.Core.List.{List}
-use native.Mathlib.Decide.{ℕ_discrete}
 use native.Mathlib.Nat.{mul-mod_right}
 use native.Mathlib.Omega.{arith}
 use lib.ListN.{length}
@@ -18,10 +17,10 @@ use Rattle.halfedges.specs.Cage.{NEXT, PREV, marker, cell}
 use Rattle.halfedges.proofs.Triangle.{next_last, next_other}
 use Rattle.splitting.specs.NextLevel.{new_twin, next_twins}
 use Rattle.tables.specs.Internal.Above.{is_above}
-use Rattle.splitting.specs.Internal.InPlace.{cells_at, with_split, Housed, SmallTwins, Fits, KnownNext, Leaving, CornerTriangle, MiddleTriangle, Descended}
+use Rattle.splitting.specs.Internal.InPlace.{cells_at, with_split, Housed, SmallTwins, KnownNext, Leaving, CornerTriangle, MiddleTriangle, Descended}
 use Rattle.splitting.proofs.Rows.{at_corner, at_across, at_back, at_middle}
 use Rattle.splitting.proofs.Soundness.{where-twin}
-use Rattle.splitting.proofs.Triangles.{TwinsFilled, filled_three, filled_before, filled_fits, twins_on}
+use Rattle.splitting.proofs.Triangles.{TwinsFilled, filled_three, filled_before, twins_on}
 
 -- the next level of c's, where it stands
 module _ (t : HalfedgeTable) (at : ℕ) (twin c : List ℕ) (four : t.halfedges ≡ 4 * length c) (made : part twin at t.halfedges ≡ next_twins c) where
@@ -45,13 +44,6 @@ module _ (t : HalfedgeTable) (at : ℕ) (twin c : List ℕ) (four : t.halfedges 
       }
 
 -- NEXT of a twin that is the last or the first of its triangle
-pub two_below : {t : ℕ} → Leaving 2 t → 2 ≤ t
-two_below {t} l = by (ℕ_discrete t marker)
-  where
-    by : Dec (t ≡ marker) → 2 ≤ t
-    by (yes e) = omega arith
-    by (no e) = omega (arith, (l e).1)
-
 pub last_next : {t x : ℕ} → Leaving 2 t → x ≡ t → KnownNext t (x - 2)
 last_next {t} l e m = ((l m).0, ap (λ y. y - 2) e ∙ sym (next_last t (l m).1))
 
@@ -85,12 +77,6 @@ module _ {t : HalfedgeTable} {at : ℕ} {twin : List ℕ} (s : Housed t at twin)
       let v : cell twin (at + h) ≡ 3 * j + 1 = subst (λ k. cell twin (at + k) ≡ 3 * j + 1) (sym e) (d.middle j (omega (arith, d.four))) in
       rw v (simp (ne_eqb (3 * j + 1) marker (λ m. omega (arith, m, s.small.halfedges)), lt-ltb (3 * j + 1) h (omega (arith, d.four))))
 
--- the loop over the corner triangles has come to the j-th
-pub record Cornered (n at : ℕ) (xs ys : List ℕ) (j : ℕ) : Type 0 where
-  pub filled : TwinsFilled n at xs ys (3 * j)
-  pub first : j % 3 ≡ 0
-  pub within : j ≤ n / 4
-
 module _ {t : HalfedgeTable} {at : ℕ} {xs : List ℕ} (pre : Housed t at xs × SmallTwins t at xs × Descended t at xs) where
   abbrev d : Descended t at xs
   d = pre.2
@@ -106,35 +92,31 @@ module _ {t : HalfedgeTable} {at : ℕ} {xs : List ℕ} (pre : Housed t at xs ×
 
   module _ {ys : List ℕ} {j : ℕ} (f : TwinsFilled n at xs ys (3 * j)) (l : j < q) where
     -- a corner triangle is ready to be split, and then one more is filled in
-    pub corner_there : (across : Known) → across.0 ≡ 3 * q + j → across.1 ≡ NEXT across.0 → Fits n at (3 * j) ys × CornerTriangle (cells_at ys at (3 * j)) across
+    pub corner_there : (across : Known) → across.0 ≡ 3 * q + j → across.1 ≡ NEXT across.0 → CornerTriangle (cells_at ys at (3 * j)) across
     corner_there across e o =
-        let w = as_it_was f (omega arith) in (
-          filled_fits f (omega arith),
-          record {
-            first = rw (w (3 * j) (omega arith)) (λ m. (pre.1 (3 * j) (omega arith) m, d.corner j l m));
-            second = w (3 * j + 1) (omega arith) ∙ d.across j l ∙ sym e;
-            third = rw (w (3 * j + 2) (omega arith)) (λ m. (pre.1 (3 * j + 2) (omega arith) m, d.back j l m));
-            small = omega (arith, e, f.small);
-            known = o;
-          },
-        )
+        let w = as_it_was f (omega arith) in
+        record {
+          first = rw (w (3 * j) (omega arith)) (λ m. (pre.1 (3 * j) (omega arith) m, d.corner j l m));
+          second = w (3 * j + 1) (omega arith) ∙ d.across j l ∙ sym e;
+          third = rw (w (3 * j + 2) (omega arith)) (λ m. (pre.1 (3 * j + 2) (omega arith) m, d.back j l m));
+          small = omega (arith, e, f.small);
+          known = o;
+        }
 
     pub corner_on : {zs : List ℕ} {k : ℕ} → zs ≡ with_split ys at n (3 * j) → k ≡ j + 1 → TwinsFilled n at xs zs (3 * k)
-    corner_on {zs} {k} e o = subst (TwinsFilled n at xs zs) (let r : 3 * j + 3 ≡ 3 * k = omega (arith, o) in r) (twins_on f (omega arith) refl refl e)
+    corner_on e o = twins_on f (omega arith) refl refl e (omega (arith, o))
 
-  pub middle_there : {ys : List ℕ} {j : ℕ} → TwinsFilled n at xs ys (3 * q + j) → j < q → Fits n at (3 * q + j) ys × MiddleTriangle (cells_at ys at (3 * q + j)) (3 * j + 1)
+  pub middle_there : {ys : List ℕ} {j : ℕ} → TwinsFilled n at xs ys (3 * q + j) → j < q → MiddleTriangle (cells_at ys at (3 * q + j)) (3 * j + 1)
   middle_there {ys} {j} f l =
       let i : 3 * q + j < n = omega (arith, d.four) in
       let m : j + 3 ≤ q = omega (arith, d.four, (filled_three f i).0) in
       let w = as_it_was f i in
       let b : 3 * q + j + 1 ≡ 3 * q + (j + 1) = omega arith in
-      let c : 3 * q + j + 2 ≡ 3 * q + (j + 2) = omega arith in (
-        filled_fits f i,
-        record {
-          first = w (3 * q + j) (omega arith) ∙ d.middle j l;
-          second = rw b (w (3 * q + (j + 1)) (omega arith) ∙ d.middle (j + 1) (omega arith) ∙ omega arith);
-          third = rw c (w (3 * q + (j + 2)) (omega arith) ∙ d.middle (j + 2) (omega arith) ∙ omega arith);
-          small = omega (arith, f.small);
-          leaving = omega arith;
-        },
-      )
+      let c : 3 * q + j + 2 ≡ 3 * q + (j + 2) = omega arith in
+      record {
+        first = w (3 * q + j) (omega arith) ∙ d.middle j l;
+        second = rw b (w (3 * q + (j + 1)) (omega arith) ∙ d.middle (j + 1) (omega arith) ∙ omega arith);
+        third = rw c (w (3 * q + (j + 2)) (omega arith) ∙ d.middle (j + 2) (omega arith) ∙ omega arith);
+        small = omega (arith, f.small);
+        leaving = omega arith;
+      }

@@ -16,7 +16,7 @@ use Rattle.laws.proofs.Parts.{length_part, part_at}
 use Rattle.halfedges.specs.Cage.{PREV, cell, above}
 use Rattle.halfedges.proofs.Triangle.{prev_first, prev_other}
 use Rattle.splitting.specs.NextLevel.{new_twin, new_edge, new_vert, next_twins, next_edges, next_verts}
-use Rattle.splitting.specs.Internal.InPlace.{most_small, trio, cells_at, EachOf, twin_halves, edge_halves, joined, join_twins, split_twins, split_verts, split_edges, set_split, with_split_edges, with_next, with_next_verts, with_next_edges, SmallTwin, SmallEdge, SmallEdges, Fits, Housed}
+use Rattle.splitting.specs.Internal.InPlace.{most_small, trio, cells_at, EachOf, twin_halves, edge_halves, joined, join_twins, split_twins, split_verts, split_edges, set_split, with_split_edges, with_next, with_next_verts, with_next_edges, SmallTwin, SmallEdge, SmallEdges, Housed}
 use Rattle.tables.specs.Internal.Above.{is_above}
 use Rattle.splitting.proofs.Rows.{at_corner, at_across, at_back, at_middle}
 use Rattle.splitting.proofs.Fill.{Going, split_by, going_start, going_on, going_before, going_done}
@@ -138,9 +138,6 @@ filled-start {t} {at} {xs} {new} s =
     record { small = s.small.halfedges; whole = s.whole; room = room; going = going_start xs at t.halfedges new room; first = omega arith; within = omega arith }
 
 module _ {n at h : ℕ} {new : ℕ → ℕ} {xs ys : List ℕ} (f : Filled n at new xs ys h) where
-  pub filled_long : length ys ≡ length xs
-  filled_long = f.going.long
-
   filled_done : {m : ℕ} → n ≤ h → m ≡ n → ys ≡ with_next xs at n (tabulate (4 * m) new)
   filled_done l e =
       let d : at + n + 4 * n ≡ at + 5 * n = omega arith in
@@ -161,15 +158,13 @@ module _ {n at h : ℕ} {new : ℕ → ℕ} {xs ys : List ℕ} (f : Filled n at 
     filled-trio : cells_at ys at h ≡ cells_at xs at h
     filled-trio = each n h f.first filled_three.0 (λ k. cell ys (at + k)) (λ k. cell xs (at + k)) (λ k m. filled_before (at + k) (omega arith))
 
-    pub filled_fits : Fits n at h ys
-    filled_fits = record { small = f.small; within = filled_three.0; room = omega (arith, f.room, filled_long) }
-
     -- what holds of the level's cells holds of the triangle's
     filled_all : (P : ℕ → Type 0) → ((k : ℕ) → k < n → P (cell xs (at + k))) → {c : Three} → c ≡ cells_at ys at h → EachOf P c
     filled_all P all e = all_three P all filled_three.0 (e ∙ filled-trio)
 
-    filled_on : {zs : List ℕ} {r : Split} → zs ≡ set_split ys at n h r → r ≡ split_by new n h → Filled n at new xs zs (h + 3)
-    filled_on e q =
+    filled_on : {zs : List ℕ} {r : Split} {k : ℕ} → zs ≡ set_split ys at n h r → r ≡ split_by new n h → k ≡ h + 3 → Filled n at new xs zs k
+    filled_on e q o =
+        rw o
         record {
           small = f.small;
           whole = f.whole;
@@ -184,7 +179,7 @@ module _ {n at h : ℕ} {xs ys : List ℕ} (f : TwinsFilled n at xs ys h) where
   pub twins_ready : {c : Three} → ((k : ℕ) → k < n → SmallTwin (cell xs (at + k))) → h < n → c ≡ cells_at ys at h → EachOf SmallTwin c × n ≤ most_small × h ≤ most_small
   twins_ready small l e = (filled_all f l SmallTwin small e, f.small, omega (arith, f.small))
 
-  pub twins_on : {zs : List ℕ} {r : Split} {c : Three} → h < n → c ≡ cells_at ys at h → r ≡ split_twins c n h → zs ≡ set_split ys at n h r → TwinsFilled n at xs zs (h + 3)
+  pub twins_on : {zs : List ℕ} {r : Split} {c : Three} → h < n → c ≡ cells_at ys at h → r ≡ split_twins c n h → zs ≡ set_split ys at n h r → {k : ℕ} → k ≡ h + 3 → TwinsFilled n at xs zs k
   twins_on l e q p =
       filled_on f l p
       (q ∙ ap (λ c. split_twins c n h) (e ∙ filled-trio f l) ∙ sym (twin_split at n h f.first (filled_three f l).0 xs (omega (arith, f.room))))
@@ -195,10 +190,7 @@ module _ {n at h : ℕ} {xs ys : List ℕ} (f : TwinsFilled n at xs ys h) where
 
 module _ {t : HalfedgeTable} {at : ℕ} {other : List ℕ} (o : Housed t at other) {h : ℕ} {xs ys : List ℕ} where
   module _ (f : VertsFilled t.halfedges t.vertices at xs other ys h) where
-    pub verts_ready : {c : Three} → SmallEdges t at other → h < t.halfedges → c ≡ cells_at other at h → EachOf SmallEdge c × t.vertices ≤ most_small
-    verts_ready small l e = (all_three SmallEdge small (filled_three f l).0 e, o.small.vertices)
-
-    pub verts_on : {zs : List ℕ} {r : Split} {c d : Three} → h < t.halfedges → c ≡ cells_at ys at h → d ≡ cells_at other at h → r ≡ split_verts c d t.vertices → zs ≡ set_split ys at t.halfedges h r → VertsFilled t.halfedges t.vertices at xs other zs (h + 3)
+    pub verts_on : {zs : List ℕ} {r : Split} {c d : Three} → h < t.halfedges → c ≡ cells_at ys at h → d ≡ cells_at other at h → r ≡ split_verts c d t.vertices → zs ≡ set_split ys at t.halfedges h r → {k : ℕ} → k ≡ h + 3 → VertsFilled t.halfedges t.vertices at xs other zs k
     verts_on l e d q p =
         filled_on f l p
         (q ∙ ap₂ (λ c d. split_verts c d t.vertices) (e ∙ filled-trio f l) d
@@ -209,10 +201,10 @@ module _ {t : HalfedgeTable} {at : ℕ} {other : List ℕ} (o : Housed t at othe
     verts_done l = filled_done f l (long_part f)
 
   module _ (f : EdgesFilled t.halfedges t.edges at xs other ys h) where
-    pub edges_ready : SmallEdges t at xs → h < t.halfedges → (Fits t.halfedges at h ys × t.edges ≤ most_small) × EachOf SmallEdge (cells_at ys at h)
-    edges_ready small l = ((filled_fits f l, o.small.edges), filled_all f l SmallEdge small refl)
+    pub edges_ready : SmallEdges t at xs → h < t.halfedges → EachOf SmallEdge (cells_at ys at h)
+    edges_ready small l = filled_all f l SmallEdge small refl
 
-    pub edges_on : {zs : List ℕ} {up : Above} → h < t.halfedges → up ≡ above_three other at h → zs ≡ with_split_edges ys at t h up → EdgesFilled t.halfedges t.edges at xs other zs (h + 3)
+    pub edges_on : {zs : List ℕ} {up : Above} → h < t.halfedges → up ≡ above_three other at h → zs ≡ with_split_edges ys at t h up → {k : ℕ} → k ≡ h + 3 → EdgesFilled t.halfedges t.edges at xs other zs k
     edges_on l p e =
         filled_on f l e
         (ap₂ (λ c up. split_edges c up t.edges h) (filled-trio f l) p

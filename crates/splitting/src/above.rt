@@ -54,8 +54,8 @@ pub fn twins_above(twin: &mut [u32], at: usize, level: HalfedgeTable)
 {
     let halfedges = level.halfedges;
     let before = halfedges / 4;
-    let mut corner = 0;
-    while corner < before {
+    for triangle in 0..before / 3 {
+        let corner = 3 * triangle;
         let across = 3 * before + corner;
         put_corner(twin, at, halfedges, corner, Known(across, across + 1));
         put_corner(
@@ -66,12 +66,10 @@ pub fn twins_above(twin: &mut [u32], at: usize, level: HalfedgeTable)
             Known(across + 1, across + 2),
         );
         put_corner(twin, at, halfedges, corner + 2, Known(across + 2, across));
-        corner += 3;
     }
-    let mut middle = 0;
-    while middle < before {
+    for triangle in 0..before / 3 {
+        let middle = 3 * triangle;
         put_middle(twin, at, halfedges, 3 * before + middle, 3 * middle + 1);
-        middle += 3;
     }
 }
 
@@ -82,19 +80,16 @@ pub fn edges_above(edge: &mut [u32], twin: &[u32], at: usize, level: HalfedgeTab
     requires small_edges { (SmallEdges level at edge.old) × (Descended level at twin.now) }
     ensures { edge.new ≡ with_next_edges edge.old twin.now at level }
 {
-    let halfedges = level.halfedges;
-    let corners = 3 * (halfedges / 4);
-    let mut first = 0;
-    while first < corners {
+    let corners = level.halfedges / 4;
+    for corner in 0..corners {
+        let first = 3 * corner;
         let a = above_at(twin, at, first);
         let c = above_at(twin, at, first + 2);
         let above = Above(a, false, c);
         put_edges(edge, at, level, first, above);
-        first += 3;
     }
     let all = Above(true, true, true);
-    while first < halfedges {
-        put_edges(edge, at, level, first, all);
-        first += 3;
+    for middle in corners..level.halfedges / 3 {
+        put_edges(edge, at, level, 3 * middle, all);
     }
 }

@@ -14,11 +14,10 @@ fn cage_twins(twin: &mut [u32], at: usize, level: HalfedgeTable)
     ensures { twin.new ≡ with_next_twins twin.old at level }
 {
     let halfedges = level.halfedges;
-    let mut first = 0;
-    while first < halfedges {
+    for triangle in 0..halfedges / 3 {
+        let first = 3 * triangle;
         let split = split_twins(three(twin, at, first), halfedges, first);
         put(twin, at, halfedges, first, split);
-        first += 3;
     }
 }
 
@@ -30,11 +29,10 @@ fn next_verts(vert: &mut [u32], edge: &[u32], at: usize, level: HalfedgeTable)
 {
     let halfedges = level.halfedges;
     let vertices = level.vertices;
-    let mut first = 0;
-    while first < halfedges {
+    for triangle in 0..halfedges / 3 {
+        let first = 3 * triangle;
         let split = split_verts(three(vert, at, first), three(edge, at, first), vertices);
         put(vert, at, halfedges, first, split);
-        first += 3;
     }
 }
 
@@ -44,15 +42,13 @@ fn cage_edges(edge: &mut [u32], twin: &[u32], at: usize, level: HalfedgeTable)
     requires small_edges { SmallEdges level at edge.old }
     ensures { edge.new ≡ with_next_edges edge.old twin.now at level }
 {
-    let halfedges = level.halfedges;
-    let mut first = 0;
-    while first < halfedges {
+    for triangle in 0..level.halfedges / 3 {
+        let first = 3 * triangle;
         let a = above_at(twin, at, first);
         let b = above_at(twin, at, first + 1);
         let c = above_at(twin, at, first + 2);
         let above = Above(a, b, c);
         put_edges(edge, at, level, first, above);
-        first += 3;
     }
 }
 

@@ -1,13 +1,16 @@
 -- What the pass leaves that makes the sums 0: `cleared_only`, `cleared_all`. Assumes nothing.
 use Prim.Native.Nat.{ℕ, zero, suc, ◌+◌, ◌*◌, ◌≤◌, ◌<◌}
-use mathlib.Core.Path.{◌≡◌, ◌∙◌}
-use mathlib.Core.List.{List}
+use mathlib.Core.Path.{◌≡◌, sym, ap, ◌∙◌}
+use mathlib.Core.List.{List, []}
 use native.Mathlib.Decide.{ℕ_discrete}
 use native.Mathlib.Nat.{le_refl, not-suc-le-zero}
 use native.Mathlib.Omega.{arith}
 use lib.IntN.{ℤ, pos}
-use lib.ListN.{length}
-use lib.Seq.{get_or-set_same}
+use lib.ListN.{length, set, replicate, length-replicate}
+use lib.Seq.{get_or-set_same, paste}
+use borrow.Rule.Slice.PartMut.{put_mid}
+use Rattle.std.proofs.lemmas.List.Edits.{paste_none, fill_from_more}
+use Rattle.std.proofs.lemmas.Slice.{put_mid-paste}
 use Rattle.laws.specs.Internal.Steps.{steps}
 use Rattle.points.specs.Internal.Cells.{value}
 use Rattle.spokes.specs.Internal.Sums.{clear_cell, Cleared}
@@ -19,6 +22,17 @@ module _ (n : ℕ) (l : List ℤ) (room : 6 * n ≤ length l) where
   cleared_only =
       only_steps (3 * n) (6 * n) (3 * n) (clear_cell n) l
       (λ i b m e. only_wider (3 * n) (6 * n) (omega arith) (omega arith) (only_set m (3 * n + i) (pos 0)))
+
+  -- cells made 0 one by one are those of a fill
+  cleared_is : (i : ℕ) → i ≤ 3 * n → steps i (clear_cell n) l ≡ paste l (3 * n) (replicate i (pos 0)) i
+  unfolding steps clear_cell
+  cleared_is zero b = paste_none l (3 * n) []
+  cleared_is (suc i) b =
+      let e : i + 1 ≡ suc i = omega arith in
+      ap (λ m. set m (3 * n + i) (pos 0)) (cleared_is i (omega arith)) ∙ fill_from_more l (3 * n) i (pos 0) (omega arith) ∙ ap (λ k. paste l (3 * n) (replicate k (pos 0)) k) e
+
+  pub filled_is : {k : ℕ} {m : List ℤ} → k ≡ 3 * n → m ≡ replicate k (pos 0) → put_mid (3 * n) k l m ≡ steps (3 * n) (clear_cell n) l
+  filled_is {k} {m} e d = put_mid-paste (3 * n) k l m (replicate (3 * n) (pos 0)) (3 * n) (d ∙ ap (λ i. replicate i (pos 0)) e) (sym e) (sym (length-replicate (3 * n) (pos 0))) ∙ sym (cleared_is (3 * n) (le_refl _))
 
   cleared_cell : (i : ℕ) → i ≤ 3 * n → (j : ℕ) → j < i → value (steps i (clear_cell n) l) (3 * n + j) ≡ pos 0
   unfolding steps clear_cell

@@ -9,6 +9,9 @@ use native.Mathlib.Omega.{arith}
 use lib.IntN.{ℤ, pos}
 use lib.ListN.{length, set, get_or-eq_default}
 use lib.Seq.{get_or-set_same}
+use mir.Syntax.{w32}
+use mir.Facts.{to_z-of_z}
+use Rattle.laws.proofs.Integers.{small_fits}
 use Rattle.laws.specs.Internal.Steps.{steps}
 use Rattle.halfedges.specs.Cage.{cell}
 use Rattle.points.specs.declared.weights.Weight.{Weight}
@@ -17,7 +20,7 @@ use Rattle.points.specs.Internal.Parts.{AsksInside}
 use Rattle.points.specs.Internal.Relied.{known_corners}
 use Rattle.points.specs.Internal.Cells.{value}
 use Rattle.spokes.specs.Internal.Vertices.{settle, SettlesAt}
-use Rattle.points.proofs.Only.{Only, only_none, only_on, only_wider, only_set}
+use Rattle.points.proofs.Only.{Only, only_none, only_on, only_wider, only_set, stored}
 
 -- the corners of a listed vertex, and of another
 pub own_known : (own : List ℕ) (u : ℕ) → u < length own → known_corners own u ≡ cell own u
@@ -27,6 +30,17 @@ own_known (x ∷ own) (suc u) l = own_known own u (le_of_suc-le-suc l)
 
 pub added_known : (own : List ℕ) (u : ℕ) → length own ≤ u → known_corners own u ≡ 6
 added_known own u l = get_or-eq_default own 6 l
+
+-- what V.3 asks, of numbers as they are kept
+module _ {corners : ℕ} {x t : ℤ} (asks : AsksInside corners x t) where
+  pub place_kept : stored x ≡ x
+  place_kept = to_z-of_z (small_fits w32 x (omega (arith, asks.place)))
+
+  pub sum_kept : stored t ≡ t
+  sum_kept = to_z-of_z (small_fits w32 t (omega (arith, asks.small, asks.few)))
+
+  pub asks_kept : AsksInside corners (stored x) (stored t)
+  asks_kept = simp (place_kept, sum_kept) asks
 
 -- a cell's turn, with corners that the vertex is known to have
 pub settle_is : (w : Weight) (own : List ℕ) (n i : ℕ) (y : List ℤ) {corners : ℕ} {z : List ℤ} → known_corners own (i / 3) ≡ corners → z ≡ set y (3 * n + i) (V3 w corners (value y i) (value y (3 * n + i))) → z ≡ settle w own n i y

@@ -54,9 +54,9 @@ fn add_corner(
     requires { AddsCorner vertices x before p q r points.old }
     ensures { points.new ≡ add_corner vertices x before p q r points.old }
 {
-    add_to(&mut *points, vertices, x, q);
+    add_to(points, vertices, x, q);
     let sum = sum_points(p, q, r);
-    add_to(&mut *points, vertices, before, sum);
+    add_to(points, vertices, before, sum);
 }
 
 // The twelve spokes of four triangles, by points that are read before the first is added.
@@ -64,15 +64,15 @@ fn add_four(points: &mut [i32], vertices: usize, four: Four)
     requires { AddsFour vertices four points.old }
     ensures { points.new ≡ add_four vertices four points.old }
 {
-    let at_u = point_of(&*points, four.u);
-    let at_v = point_of(&*points, four.v);
-    let at_w = point_of(&*points, four.w);
-    let at_a = point_of(&*points, four.a);
-    let at_b = point_of(&*points, four.b);
-    let at_c = point_of(&*points, four.c);
-    add_corner(&mut *points, vertices, four.u, four.c, at_u, at_a, at_b);
-    add_corner(&mut *points, vertices, four.v, four.a, at_v, at_b, at_c);
-    add_corner(&mut *points, vertices, four.w, four.b, at_w, at_c, at_a);
+    let at_u = point_of(points, four.u);
+    let at_v = point_of(points, four.v);
+    let at_w = point_of(points, four.w);
+    let at_a = point_of(points, four.a);
+    let at_b = point_of(points, four.b);
+    let at_c = point_of(points, four.c);
+    add_corner(points, vertices, four.u, four.c, at_u, at_a, at_b);
+    add_corner(points, vertices, four.v, four.a, at_v, at_b, at_c);
+    add_corner(points, vertices, four.w, four.b, at_w, at_c, at_a);
 }
 
 // The vertex that a halfedge starts at.
@@ -103,11 +103,8 @@ pub fn add_fours(vert: &[u32], points: &mut [i32], vertices: usize, before: usiz
     requires { (Gathers vert.now vertices points.old) × (Fourfold before vert.now) }
     ensures { points.new ≡ steps (before / 3) (four_spokes vert.now vertices) points.old }
 {
-    let triangles = before / 3;
-    let mut triangle = 0;
-    while triangle < triangles {
+    for triangle in 0..before / 3 {
         let four = four_of(vert, triangle);
-        add_four(&mut *points, vertices, four);
-        triangle += 1;
+        add_four(points, vertices, four);
     }
 }

@@ -15,8 +15,8 @@ fn add_point(points: &mut [i32], vertices: usize, a: usize, b: usize)
     requires { Adds vertices a b points.old }
     ensures { points.new ≡ add_point vertices a b points.old }
 {
-    let at_b = point_of(&*points, b);
-    add_to(&mut *points, vertices, a, at_b);
+    let at_b = point_of(points, b);
+    add_to(points, vertices, a, at_b);
 }
 
 // A triangle's three spokes, from each corner to the next.
@@ -27,9 +27,9 @@ fn add_triangle(points: &mut [i32], vertices: usize, corners: [u32; 3])
     let a = corners[0] as usize;
     let b = corners[1] as usize;
     let c = corners[2] as usize;
-    add_point(&mut *points, vertices, a, b);
-    add_point(&mut *points, vertices, b, c);
-    add_point(&mut *points, vertices, c, a);
+    add_point(points, vertices, a, b);
+    add_point(points, vertices, b, c);
+    add_point(points, vertices, c, a);
 }
 
 // The spokes of every halfedge, triangle by triangle.
@@ -37,12 +37,9 @@ fn add_spokes(vert: &[u32], points: &mut [i32], vertices: usize)
     requires { Gathers vert.now vertices points.old }
     ensures { points.new ≡ steps (length vert.now) (spoke vert.now vertices) points.old }
 {
-    let triangles = vert.len() / 3;
-    let mut triangle = 0;
-    while triangle < triangles {
+    for triangle in 0..vert.len() / 3 {
         let corners = corners_of(vert, triangle);
-        add_triangle(&mut *points, vertices, corners);
-        triangle += 1;
+        add_triangle(points, vertices, corners);
     }
 }
 
@@ -52,8 +49,8 @@ pub fn gather(vert: &[u32], points: &mut [i32], vertices: usize, before: usize)
     ensures { points.new ≡ gathered vert.now vertices before points.old }
 {
     if before == 0 {
-        add_spokes(vert, &mut *points, vertices);
+        add_spokes(vert, points, vertices);
         return;
     }
-    add_fours(vert, &mut *points, vertices, before);
+    add_fours(vert, points, vertices, before);
 }

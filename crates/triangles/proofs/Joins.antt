@@ -1,6 +1,6 @@
 -- Vertices joined one after the other, and the corners of each down their chain. Assumes nothing.
 --     joined-start, joined_on              down a vertex's chain
---     Built, built-start, built_on         one vertex after the other
+--     Built, built_on                      one vertex after the other
 --     built-place, built-twins             and when all are joined
 use Prim.Native.Nat.{ℕ, ◌+◌, ◌-◌, ◌≤◌, ◌<◌}
 use mathlib.Core.Path.{◌≡◌, refl, sym, ap, ◌∙◌}
@@ -8,7 +8,6 @@ use mathlib.Core.Logic.{◌≢◌, ◌⊎◌, inl, inr}
 use mathlib.Core.Bool.{true}
 use mathlib.Core.List.{List}
 use native.Mathlib.Decide.{ℕ_discrete, dec_lt}
-use native.Mathlib.Nat.{not-suc-le-zero}
 use native.Mathlib.Omega.{arith}
 use lib.ListN.{length, set, drop, get_or-append}
 use lib.Seq.{ext_get_or, get_or-set_same, get_or-set_other, get_or-append-add, get_or-drop}
@@ -95,15 +94,6 @@ module _ {vert ends : List ℕ} (d : Ended vert ends) where
             get_or-set_other twin' (PREV (end - 1)) (PREV k) _ 0 (λ z. q (prev_apart k (end - 1) z)) ∙ j.twins u k l e (met k e b q)
 
   -- ---- one vertex after the other
-
-  pub built-start : (twin : List ℕ) → Built vert ends 0 (length vert) twin twin
-  built-start twin =
-      record {
-        one = inl refl;
-        least = λ k l b. absurd (not-suc-le-zero b);
-        twins = λ u k l b. absurd (not-suc-le-zero b);
-        kept = λ j l. refl;
-      }
 
   pub built_on : (g place : ℕ) {place' : ℕ} {twin₀ twin twin' : List ℕ} → Joined vert ends g 0 place twin place' twin' → Built vert ends g place twin₀ twin → Built vert ends (g + 1) place' twin₀ twin'
   built_on g place {place'} {twin₀} {twin} {twin'} j b =

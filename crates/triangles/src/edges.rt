@@ -13,10 +13,8 @@ pub fn write_edges(twin: &[u32], edge: &mut [u32])
     ensures { edge.new ≡ in_front (edge_table twin.now) edge.old }
 {
     let mut edges = 0;
-    let mut halfedge = 0;
-    while halfedge < twin.len() {
+    for halfedge in 0..twin.len() {
         edges = put_edge(twin, edge, halfedge, edges);
-        halfedge += 1;
     }
 }
 

@@ -39,11 +39,9 @@ fn list_ends(vert: &[u32], ends: &mut [u32])
     requires { Whole vert.now × (length vert.now ≤ length ends.old) }
     ensures { ends.new ≡ in_front (end_table vert.now) ends.old }
 {
-    let mut halfedge = 0;
-    while halfedge < vert.len() {
+    for halfedge in 0..vert.len() {
         let next = HalfedgeTable::next(halfedge);
         ends[halfedge] = vert[next];
-        halfedge += 1;
     }
 }
 
@@ -73,12 +71,10 @@ fn join_vertices(
     ensures { Twinning vert.now twin.old result twin.new }
 {
     let mut place = vert.len();
-    let mut vertex = 0;
-    while vertex < heads.len() {
+    for vertex in 0..heads.len() {
         let head = heads[vertex] as usize;
         alike::mark(vert, ends, before, vertex, head, marks);
         place = join_corners(vert, ends, before, vertex, head, marks, place, twin);
-        vertex += 1;
     }
     place
 }

@@ -1,61 +1,14 @@
 -- `chain` chains one item after the other.
-use borrow.Author.Rules.{rules}
-use Prim.Native.Nat.{ℕ, ◌<◌}
-use mathlib.Core.Path.{◌≡◌, ◌∙◌}
 use native.Mathlib.Omega.{arith}
-use lib.ListN.{length, length-set, get_or}
-use Rattle.alike.specs.Internal.Alike.{bound}
 use Rattle.alike.proofs.Chains.{chained_none, chained_on}
 use Rattle.alike.proofs.chain.Goals as goal
 use Rattle.alike.proofs.chain.Goals.{In-loop-item}
 
--- the group that is read, and that it is there
-module _ (c : In-loop-item) where
-  abbrev group : ℕ
-  group = get_or c.args.groups.now c.loop-item.item 0
-
-  small : group < bound
-  small = c.requires.keyed.0.group_below c.loop-item.item c.loop-item-test.true
-
-  inside : group < length c.loop-item.heads
-  inside = omega (arith, small, c.requires.keyed.1, c.loop-item.invariant.0)
-
 pub loop-item-init : goal.loop-item-init
-loop-item-init c = (search rules, search rules, search rules, chained_none _ _ _ c.requires.by_index)
-
-pub overflow_cast-group : goal.overflow_cast-group
-overflow_cast-group c = omega (arith, small (goal.at.overflow_cast-group c).In-loop-item)
-
-pub offset_bounds-heads-group : goal.offset_bounds-heads-group
-offset_bounds-heads-group c = omega (arith, small (goal.at.offset_bounds-heads-group c).In-loop-item)
-
-pub bounds-heads-group : goal.bounds-heads-group
-bounds-heads-group c = inside (goal.at.bounds-heads-group c).In-loop-item
-
-pub offset_bounds-heads-group-in-loop-item : goal.offset_bounds-heads-group-in-loop-item
-offset_bounds-heads-group-in-loop-item c = omega (arith, small (goal.at.offset_bounds-heads-group-in-loop-item c).In-loop-item)
-
-pub bounds-heads-group-in-loop-item : goal.bounds-heads-group-in-loop-item
-bounds-heads-group-in-loop-item c = inside (goal.at.bounds-heads-group-in-loop-item c).In-loop-item
+loop-item-init c = chained_none _ _ _ c.requires.by_index
 
 pub loop-item-preserved : goal.loop-item-preserved
 loop-item-preserved c =
     let i = c.loop-item in
-    (simp length-set i.invariant.0, simp length-set i.invariant.1, omega arith, chained_on _ _ _ _ (inside (goal.at.loop-item-preserved c).In-loop-item) (omega arith) i.invariant.3)
-
-pub shape_of-heads : goal.shape_of-heads
-shape_of-heads c = c.loop-item.invariant.0
-
-pub shape_of-before : goal.shape_of-before
-shape_of-before c = c.loop-item.invariant.1
-
-pub returns : goal.returns
-returns c =
-    let i = c.loop-item in
-    let e : i.item ≡ length c.args.groups.now = omega arith in
-    record {
-      keyed = c.requires.keyed.0;
-      buckets = i.invariant.0 ∙ c.requires.keyed.1;
-      room = omega (arith, c.requires.keyed.2, i.invariant.1);
-      chained = rw (← e) i.invariant.3;
-    }
+    let small = c.requires.keyed.0.group_below i.item (omega arith) in
+    chained_on _ _ _ _ (omega (arith, small, c.requires.keyed.1, i.auto.heads)) (omega arith) i.invariant

@@ -1,12 +1,6 @@
-use Prim.Native.Nat.{◌-◌, ◌≤◌}
-use mathlib.Core.Path.{◌≡◌}
-use lib.ListN.{length}
 use Rattle.alike.specs.Internal.Alike.{Chained}
 use Rattle.alike.proofs.chain.Given as goal
 
 abbrev pub invariant-loop-item : goal.invariant-loop-item
 invariant-loop-item l =
-    (length l.heads ≡ length l.initial.heads) × (length l.before ≡ length l.initial.before) × (l.item ≤ length l.groups) × Chained l.groups l.item l.heads l.before
-
-abbrev pub decreases-loop-item : goal.decreases-loop-item
-decreases-loop-item l = length l.groups - l.item
+    Chained l.groups l.item l.heads l.before

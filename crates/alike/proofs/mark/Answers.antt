@@ -1,78 +1,25 @@
 -- `mark` goes down a chain: what is marked for a label is the lowest item that was met.
-use borrow.Author.Rules.{rules}
-use Prim.Native.Nat.{ℕ, ◌-◌, ◌<◌}
+use Prim.Native.Nat.{◌-◌}
 use native.Mathlib.Omega.{arith}
-use lib.ListN.{length, length-set, get_or}
-use Rattle.alike.specs.Internal.Alike.{bound}
 use Rattle.alike.proofs.Chains.{at_head, at_next, item_below, next_less}
 use Rattle.alike.proofs.Walks.{lower_start, lower_on, lower_end}
 use Rattle.alike.proofs.mark.Goals as goal
 use Rattle.alike.proofs.mark.Goals.{In-loop-end, Start}
 
--- a turn: where the function started, the item that is met, and its label
-module _ (i : In-loop-end) where
-  abbrev start : Start
-  start = (goal.at.In-loop-end i).Start
-
-  abbrev item : ℕ
-  item = i.loop-end.end - 1
-
-  below : item < length start.args.groups.now
-  below = item_below start.requires.0 i.loop-end.invariant.1 i.loop-end-test.true
-
-  small : get_or start.args.labels.now item 0 < bound
-  small = start.requires.0.keyed.label_below item below
-
-  inside : get_or start.args.labels.now item 0 < length i.loop-end.marks
-  inside = omega (arith, small, start.requires.1, i.loop-end.invariant.0)
-
-  falls : get_or start.args.before.now item 0 < i.loop-end.end
-  falls = next_less start.requires.0 i.loop-end.invariant.1 i.loop-end-test.true
-
 pub loop-end-init : goal.loop-end-init
-loop-end-init c = (search rules, at_head c.requires.0, lower_start _ _ c.requires.0 _)
-
-pub offset_bounds-labels-item : goal.offset_bounds-labels-item
-offset_bounds-labels-item c = omega (arith, below c, (start c).requires.0.keyed.few)
-
-pub bounds-labels-item : goal.bounds-labels-item
-bounds-labels-item c = omega (arith, below (goal.at.bounds-labels-item c).In-loop-end, (start (goal.at.bounds-labels-item c).In-loop-end).requires.0.keyed.long)
-
-pub overflow_cast-label : goal.overflow_cast-label
-overflow_cast-label c = omega (arith, small (goal.at.overflow_cast-label c).In-loop-end)
-
-pub overflow_cast-marks : goal.overflow_cast-marks
-overflow_cast-marks c = omega (arith, below (goal.at.overflow_cast-marks c).In-loop-end, (start (goal.at.overflow_cast-marks c).In-loop-end).requires.0.keyed.few)
-
-pub offset_bounds-marks-label : goal.offset_bounds-marks-label
-offset_bounds-marks-label c = omega (arith, small (goal.at.offset_bounds-marks-label c).In-loop-end)
-
-pub bounds-marks-label : goal.bounds-marks-label
-bounds-marks-label c = inside (goal.at.bounds-marks-label c).In-loop-end
-
-pub offset_bounds-before-item : goal.offset_bounds-before-item
-offset_bounds-before-item c = omega (arith, below (goal.at.offset_bounds-before-item c).In-loop-end, (start (goal.at.offset_bounds-before-item c).In-loop-end).requires.0.keyed.few)
-
-pub bounds-before-item : goal.bounds-before-item
-bounds-before-item c = omega (arith, below (goal.at.bounds-before-item c).In-loop-end, (start (goal.at.bounds-before-item c).In-loop-end).requires.0.room)
-
-pub overflow_cast-end : goal.overflow_cast-end
-overflow_cast-end c = omega (arith, falls (goal.at.overflow_cast-end c).In-loop-end, c.loop-end.invariant.1.below, (start (goal.at.overflow_cast-end c).In-loop-end).requires.0.keyed.few)
+loop-end-init c = (at_head c.requires.0, lower_start _ _ c.requires.0 _)
 
 pub loop-end-smaller : goal.loop-end-smaller
-loop-end-smaller c = falls (goal.at.loop-end-smaller c).In-loop-end
+loop-end-smaller c = next_less c.requires.0 c.loop-end.invariant.0 c.loop-end-test.true
 
 pub loop-end-preserved : goal.loop-end-preserved
 loop-end-preserved c =
-    let s = start (goal.at.loop-end-preserved c).In-loop-end in
-    let v = c.loop-end.invariant in
+    let i = c.loop-end in
+    let v = i.invariant in
     let n = c.loop-end-test.true in
-    (simp length-set v.0, at_next s.requires.0 v.1 n, lower_on _ _ s.requires.0 v.1 n _ (inside (goal.at.loop-end-preserved c).In-loop-end) v.2)
-
-pub shape_of-marks : goal.shape_of-marks
-shape_of-marks c = c.loop-end.invariant.0
+    let small = c.requires.0.keyed.label_below (i.end - 1) (item_below c.requires.0 v.0 n) in
+    (at_next c.requires.0 v.0 n, lower_on _ _ c.requires.0 v.0 n _ (omega (arith, small, c.requires.1, i.auto.marks)) v.1)
 
 pub returns : goal.returns
 returns c =
-    let i = c.loop-end in
-    lower_end _ _ c.requires.0 _ (rw c.loop-end-test.false at i.invariant.2)
+    lower_end _ _ c.requires.0 _ (rw c.loop-end-test.false at c.loop-end.invariant.1)

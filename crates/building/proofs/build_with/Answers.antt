@@ -1,48 +1,46 @@
--- `build_with` answers its checks, and else writes what stands in the table apart.
+-- `build_with` hands on its checks' refusal, and else writes what stands in the table apart.
 use Prim.Native.Nat.{◌≤◌}
-use mathlib.Core.Path.{◌≡◌, sym, ◌∙◌}
+use mathlib.Core.Path.{◌≡◌, refl, sym}
 use native.Mathlib.Omega.{arith}
 use lib.ListN.{length, take}
 use lib.Seq.{length-take-le}
 use Rattle.halfedges.specs.Refusals.{DONE}
+use Rattle.halfedges.proofs.Told.{handed_on}
 use Rattle.triangles.specs.Plain.{twin_table}
 use Rattle.building.specs.Building.{build_verdict}
 use Rattle.building.proofs.Built.{in_front_lem}
-use Rattle.building.proofs.Outcome.{limits, writable, build_done, told_done, build_refused}
+use Rattle.building.proofs.Outcome.{limits, writable, build_done, build_refused}
 use Rattle.building.proofs.build_with.Goals as goal
-use Rattle.building.proofs.build_with.Goals.{After-number, After-plan-answer, Else-number-ne0, Start}
+use Rattle.building.proofs.build_with.Goals.{In_ok-plan, Start}
 
 -- where the plan is done
-module _ (i : Else-number-ne0) where
-  abbrev plan : After-plan-answer
-  plan = (goal.at.Else-number-ne0 i).After-plan-answer
-
+module _ (i : In_ok-plan) where
   abbrev start : Start
-  start = (goal.at.After-plan-answer plan).Start
+  start = (goal.at.In_ok-plan i).Start
 
   done : build_verdict start.args.vert.now start.args.points.now start.args.twin.now start.args.edge.now ≡ DONE
-  done = told_done _ _ _ _ plan.plan-answer.result plan.plan-answer.ensures.result_value i.number.ensures i.if-number-ne0.false
+  done = sym i.in_ok-plan.ensures.result_value
 
-  fits : length start.args.vert.now ≤ length plan.plan-answer.new.twins
-  fits = omega (arith, (limits _ _ _ _ done).0, start.requires, plan.plan-answer.auto.twins)
+  fits : length start.args.vert.now ≤ length i.plan.new.twins
+  fits = omega (arith, (limits _ _ _ _ done).0, start.requires, i.plan.auto.twins)
 
-  built : take (length start.args.vert.now) plan.plan-answer.new.twins ≡ twin_table start.args.vert.now
-  built = in_front_lem start.args.vert.now start.args.twins.now (plan.plan-answer.ensures.twins_after (sym i.number.ensures ∙ i.if-number-ne0.false))
+  built : take (length start.args.vert.now) i.plan.new.twins ≡ twin_table start.args.vert.now
+  built = in_front_lem start.args.vert.now start.args.twins.now (i.in_ok-plan.ensures.twins_after refl)
 
-pub returns-then-number-ne0 : goal.returns-then-number-ne0
-returns-then-number-ne0 c =
-    build_refused _ _ _ _ c.plan-answer.result c.plan-answer.ensures.result_value c.number.ensures c.if-number-ne0.true _ _ c.answered.ensures
+pub returns-in_err-plan : goal.returns-in_err-plan
+returns-in_err-plan c = rw (handed_on c.from_residual.ensures) (build_refused _ _ _ _ _ c.in_err-plan.ensures.result_value)
 
 pub slice_bounds-write_built-end : goal.slice_bounds-write_built-end
-slice_bounds-write_built-end c = fits c
+slice_bounds-write_built-end c = fits (goal.at.slice_bounds-write_built-end c).In_ok-plan
 
 pub slice_bounds-write_built-end-2 : goal.slice_bounds-write_built-end-2
-slice_bounds-write_built-end-2 c = sym (length-take-le _ _ (fits (goal.at.slice_bounds-write_built-end-2 c).Else-number-ne0))
+slice_bounds-write_built-end-2 c = sym (length-take-le _ _ (fits (goal.at.slice_bounds-write_built-end-2 c).In_ok-plan))
 
 pub write_built-requires : goal.write_built-requires
-write_built-requires c = writable _ _ _ _ (done (goal.at.write_built-requires c).Else-number-ne0) (built (goal.at.write_built-requires c).Else-number-ne0)
+write_built-requires c = let i = (goal.at.write_built-requires c).In_ok-plan in writable _ _ _ _ (done i) (built i)
 
 pub returns : goal.returns
 returns c =
+    let i = (goal.at.returns c).In_ok-plan in
     let e = c.write_built.ensures in
-    build_done _ _ _ _ (done (goal.at.returns c).Else-number-ne0) (built (goal.at.returns c).Else-number-ne0) e.result_value e.twin_after e.edge_after
+    build_done _ _ _ _ (done i) (built i) e.result_value e.twin_after e.edge_after

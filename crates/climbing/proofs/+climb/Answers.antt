@@ -10,9 +10,6 @@ cells_at-requires t c = cage_there c.requires.0 c.requires.1 c.if-depth-eq0.true
 pub returns-then-depth-eq0 : goal.returns-then-depth-eq0
 returns-then-depth-eq0 t c = c.cells_at.ensures ∙ cage_is c.requires.0 c.requires.1 c.if-depth-eq0.true
 
-pub at-level-requires : goal.at-level-requires
-at-level-requires t c = (c.requires.0.small, omega (arith, c.requires.0.shallow))
-
 pub ancestor-ancestor-requires : goal.ancestor-ancestor-requires
 ancestor-ancestor-requires t c = (
   (down_small c.requires.0 c.requires.1 c.if-depth-eq0.false c.at-level.ensures).halfedges,

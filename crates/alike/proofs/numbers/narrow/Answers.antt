@@ -1,5 +1,5 @@
 -- `narrow` splits off the last digit: what stands before it is narrowed, and the first places are found by both.
-use Prim.Native.Nat.{ℕ, ◌/◌, ◌≤◌, ◌<◌}
+use Prim.Native.Nat.{ℕ, ◌≤◌, ◌<◌}
 use mathlib.Core.Path.{sym, ◌∙◌}
 use mathlib.Core.List.{List}
 use native.Mathlib.Omega.{arith}
@@ -7,7 +7,7 @@ use lib.ListN.{length, get_or, take}
 use lib.Seq.{length-take-le, get_or-take}
 use borrow.Author.Tests.{eq-eqb, eqb-true}
 use Rattle.alike.specs.Internal.Alike.{bound}
-use Rattle.alike.proofs.Digits.{GoesBy, keyed_digits, firsts_narrow}
+use Rattle.alike.proofs.Digits.{GoesBy, firsts_narrow}
 use Rattle.alike.proofs.numbers.narrow.Goals as goal
 use Rattle.alike.proofs.numbers.narrow.Goals.{After-narrow_upper, After-split, Start}
 
@@ -27,9 +27,6 @@ module _ (c : After-split) where
 
   low_long : length numbers ≤ length c.split.new.low
   low_long = omega (arith, c.split.auto.low, few)
-
-  upper_small : (k : ℕ) → k < length numbers → get_or c.split.new.upper k 0 / bound < bound
-  upper_small k l = omega (arith, c.split.ensures.before k l, c.shared_slice_known-1.given k)
 
 -- once what stands before the last digit is narrowed
 module _ (c : After-narrow_upper) where
@@ -51,27 +48,6 @@ module _ (c : After-narrow_upper) where
       let tj = get_or-take (length (numbers apart)) apart.split.new.upper j 0 lj in
       let tk = get_or-take (length (numbers apart)) apart.split.new.upper k 0 lk in
       (λ e. sym tj ∙ eqb-true _ _ (sym s ∙ eq-eqb _ _ e) ∙ tk, λ e. eqb-true _ _ (s ∙ eq-eqb _ _ (tj ∙ e ∙ sym tk)))
-
-pub slice_bounds-narrow_upper-end : goal.slice_bounds-narrow_upper-end
-slice_bounds-narrow_upper-end c = sym (length-take-le _ _ (upper_long (goal.at.slice_bounds-narrow_upper-end c).After-split))
-
-pub narrow_upper-requires : goal.narrow_upper-requires
-narrow_upper-requires c =
-    let e = length-take-le (length (numbers (goal.at.narrow_upper-requires c).After-split)) c.split.new.upper (upper_long (goal.at.narrow_upper-requires c).After-split) in
-    record { numbers_len_bound = (omega (arith, e, few (goal.at.narrow_upper-requires c).After-split), omega (arith, e, few (goal.at.narrow_upper-requires c).After-split)); by_index = λ k l. let m : k < length (numbers (goal.at.narrow_upper-requires c).After-split) = omega (arith, e) in rw (get_or-take (length (numbers (goal.at.narrow_upper-requires c).After-split)) c.split.new.upper k 0 m) (upper_small (goal.at.narrow_upper-requires c).After-split k m) }
-
-pub slice_bounds-find_firsts-end : goal.slice_bounds-find_firsts-end
-slice_bounds-find_firsts-end c = sym (length-take-le _ _ (first_long (goal.at.slice_bounds-find_firsts-end c).After-narrow_upper))
-
-pub slice_bounds-find_firsts-end-2 : goal.slice_bounds-find_firsts-end-2
-slice_bounds-find_firsts-end-2 c = sym (length-take-le _ _ (low_long (apart (goal.at.slice_bounds-find_firsts-end-2 c).After-narrow_upper)))
-
-pub find_firsts-requires : goal.find_firsts-requires
-find_firsts-requires c =
-    let s = apart (goal.at.find_firsts-requires c).After-narrow_upper in (
-      keyed_digits _ _ _ _ s.split.ensures (few s) (first_long (goal.at.find_firsts-requires c).After-narrow_upper) (low_long s) (below (goal.at.find_firsts-requires c).After-narrow_upper) (by_upper (goal.at.find_firsts-requires c).After-narrow_upper),
-      omega (arith, length-take-le (length (numbers s)) c.narrow_upper.new.small (first_long (goal.at.find_firsts-requires c).After-narrow_upper), (start s).requires.1),
-    )
 
 pub returns : goal.returns
 returns c =

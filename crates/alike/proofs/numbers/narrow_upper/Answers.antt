@@ -1,12 +1,10 @@
 -- `narrow_upper` splits the numbers, and finds the first places by both digits.
 use Prim.Native.Nat.{ℕ, ◌≤◌, ◌<◌}
-use mathlib.Core.Path.{sym}
 use mathlib.Core.List.{List}
 use native.Mathlib.Omega.{arith}
 use lib.ListN.{length, get_or}
-use lib.Seq.{length-take-le}
 use Rattle.alike.specs.Internal.Alike.{bound}
-use Rattle.alike.proofs.Digits.{GoesBy, keyed_digits, firsts_narrow}
+use Rattle.alike.proofs.Digits.{GoesBy, firsts_narrow}
 use Rattle.alike.proofs.numbers.narrow_upper.Goals as goal
 use Rattle.alike.proofs.numbers.narrow_upper.Goals.{After-split, Start}
 
@@ -29,18 +27,6 @@ module _ (c : After-split) where
 
   itself : GoesBy (length numbers) c.split.new.upper c.split.new.upper
   itself j k lj lk = (λ e. e, λ e. e)
-
-pub slice_bounds-find_firsts-end : goal.slice_bounds-find_firsts-end
-slice_bounds-find_firsts-end c = sym (length-take-le _ _ (high_long (goal.at.slice_bounds-find_firsts-end c).After-split))
-
-pub slice_bounds-find_firsts-end-2 : goal.slice_bounds-find_firsts-end-2
-slice_bounds-find_firsts-end-2 c = sym (length-take-le _ _ (low_long (goal.at.slice_bounds-find_firsts-end-2 c).After-split))
-
-pub find_firsts-requires : goal.find_firsts-requires
-find_firsts-requires c = (
-  keyed_digits _ _ _ _ c.split.ensures (start (goal.at.find_firsts-requires c).After-split).requires.numbers_len_bound.0 (high_long (goal.at.find_firsts-requires c).After-split) (low_long (goal.at.find_firsts-requires c).After-split) (below (goal.at.find_firsts-requires c).After-split) (itself (goal.at.find_firsts-requires c).After-split),
-  omega (arith, length-take-le (length (numbers (goal.at.find_firsts-requires c).After-split)) c.split.new.upper (high_long (goal.at.find_firsts-requires c).After-split), (start (goal.at.find_firsts-requires c).After-split).requires.numbers_len_bound.1),
-)
 
 pub returns : goal.returns
 returns c =

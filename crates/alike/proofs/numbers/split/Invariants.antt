@@ -1,12 +1,6 @@
-use Prim.Native.Nat.{◌-◌, ◌≤◌}
-use mathlib.Core.Path.{◌≡◌}
-use lib.ListN.{length}
 use Rattle.alike.specs.Internal.Narrowed.{Halved}
 use Rattle.alike.proofs.numbers.split.Given as goal
 
 abbrev pub invariant-loop-place : goal.invariant-loop-place
 invariant-loop-place l =
-    (length l.upper ≡ length l.initial.upper) × (length l.low ≡ length l.initial.low) × (l.place ≤ length l.numbers) × Halved l.numbers l.place l.upper l.low
-
-abbrev pub decreases-loop-place : goal.decreases-loop-place
-decreases-loop-place l = length l.numbers - l.place
+    Halved l.numbers l.place l.upper l.low

@@ -1,16 +1,14 @@
 -- A text that is no question gets the line that says what one looks like, any other the answer to its question.
-use mathlib.Core.Path.{sym, ap, ◌∙◌}
+use mathlib.Core.Path.{ap}
 use native.Mathlib.Omega.{arith}
 use Rattle.text.proofs.Replying.{replied_within, replied_as}
 use Rattle.counter.specs.Counting.{reply_to, count_reply}
 use Rattle.counter.proofs.counting.count_into.Goals as goal
 
-pub returns-in_default : goal.returns-in_default
+pub returns-in-Some : goal.returns-in-Some
 unfolding count_reply
-returns-in_default c =
-    replied_as (ap reply_to (sym c.in_default.is ∙ c.ask-question.ensures)) (replied_within (omega arith) c.put_misuse.ensures)
+returns-in-Some c = replied_as (ap reply_to c.in-Some.ensures) c.put_counting.ensures
 
-pub returns : goal.returns
+pub returns-in-None : goal.returns-in-None
 unfolding count_reply
-returns c =
-    replied_as (ap reply_to (sym c.in-Asked.is ∙ c.ask-question.ensures)) c.put_counting.ensures
+returns-in-None c = replied_as (ap reply_to c.in-None.ensures) (replied_within (omega arith) c.put_misuse.ensures)

@@ -19,19 +19,11 @@ finer-table-requires c =
     let a = written_small c.requires c.loop-level.invariant c.loop-level-test.true in
     record { halfedges = omega arith; edges = omega arith; vertices = omega arith }
 
-pub overflow_add-level : goal.overflow_add-level
-overflow_add-level c =
-    omega (arith, c.loop-level-test.true, c.requires.shallow)
-
-pub loop-level-smaller : goal.loop-level-smaller
-loop-level-smaller c = omega (arith, c.loop-level-test.true)
-
 pub loop-level-preserved : goal.loop-level-preserved
 loop-level-preserved c =
     written_on c.requires c.loop-level.invariant c.loop-level-test.true c.write_level.ensures c.finer-table.ensures
 
-pub shape_of-lent : goal.shape_of-lent
-shape_of-lent c = written_long c.requires c.loop-level.invariant
-
-pub returns : goal.returns
-returns c = written_all c.requires c.loop-level.invariant c.loop-level-test.false
+pub returns-2 : goal.returns-2
+returns-2 c =
+    let last = written_on c.requires c.loop-level.invariant (omega arith) c.write_level.ensures c.finer-table.ensures in
+    written_all c.requires last (omega arith)

@@ -1,9 +1,13 @@
--- `meet_one` stores three coordinates, each worked out before the first store.
-use Rattle.points.proofs.Only.{put_stored}
+-- `meet_one` changes three cells, each by its own coordinate.
+use native.Mathlib.Omega.{arith}
+use borrow.Author.Rules.{rules}
+use Rattle.points.proofs.Only.{changed_is, near_stored, near_kept}
 use Rattle.edgepoints.specs.Internal.Edges.{meet}
 use Rattle.edgepoints.proofs.edges.meet_one.Goals as goal
 
+pub change_point-requires : goal.change_point-requires
+change_point-requires c = record { room = c.requires.room; callable = λ k b. (λ s p g r. omega arith, λ s p g r. b, λ s p g r h. omega arith, λ s p g r h. b, λ s p g r h i u. (near_kept _ c.requires.near k b, near_kept _ c.requires.neighbour_near k b)) }
+
 pub returns : goal.returns
 unfolding meet
-returns c =
-    put_stored _ _ _ c.met_at-x.type_inv c.met_at-y.type_inv c.met_at-z.type_inv c.put_point.ensures c.met_at-x.ensures c.met_at-y.ensures c.met_at-z.ensures
+returns c = changed_is _ c.change_point.ensures (λ k b z e. search (rules, e, near_stored _ c.requires.near k b, near_stored _ c.requires.neighbour_near k b))

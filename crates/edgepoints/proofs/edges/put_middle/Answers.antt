@@ -1,7 +1,11 @@
--- `put_middle` stores three coordinates, each worked out before the first store.
-use Rattle.points.proofs.Only.{put_stored}
+-- `put_middle` changes three cells, each by its own coordinate.
+use native.Mathlib.Omega.{arith}
+use borrow.Author.Rules.{rules}
+use Rattle.points.proofs.Only.{changed_is, near_stored, near_kept}
 use Rattle.edgepoints.proofs.edges.put_middle.Goals as goal
 
+pub change_point-requires : goal.change_point-requires
+change_point-requires c = record { room = c.requires.room; callable = λ k b. (λ s p g r. omega arith, λ s p g r. b, λ s p g r h. omega arith, λ s p g r h. b, λ s p g r h i u. (near_kept _ c.requires.near k b, near_kept _ c.requires.neighbour_near k b)) }
+
 pub returns : goal.returns
-returns c =
-    put_stored _ _ _ c.middle_at-x.type_inv c.middle_at-y.type_inv c.middle_at-z.type_inv c.put_point.ensures c.middle_at-x.ensures c.middle_at-y.ensures c.middle_at-z.ensures
+returns c = changed_is _ c.change_point.ensures (λ k b z e. search (rules, e, near_stored _ c.requires.near k b, near_stored _ c.requires.neighbour_near k b))

@@ -1,7 +1,7 @@
 -- `fill` copies the cage and fills in its levels, which cover it.
 use mathlib.Core.Path.{◌∙◌}
 use Rattle.levels.specs.Internal.Filling.{tables_in_front}
-use Rattle.levels.proofs.Copied.{cage_short, copied_refinable, levels_over}
+use Rattle.levels.proofs.Copied.{cage_short, levels_over}
 use Rattle.levels.proofs.refine.fill.Goals as goal
 
 pub copy-requires : goal.copy-requires
@@ -12,11 +12,6 @@ copy-requires-2 c = (cage_short c.requires).1
 
 pub copy-requires-3 : goal.copy-requires-3
 copy-requires-3 c = (cage_short c.requires).2
-
-pub fill_levels-requires : goal.fill_levels-requires
-unfolding tables_in_front
-fill_levels-requires c =
-    rw (c.copy.ensures, c.copy-2.ensures, c.copy-3.ensures) (copied_refinable c.requires)
 
 pub returns : goal.returns
 unfolding tables_in_front

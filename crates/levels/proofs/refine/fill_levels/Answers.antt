@@ -8,37 +8,22 @@ pub loop-filled-init : goal.loop-filled-init
 loop-filled-init c = reached_start _ _ _ c.requires
 
 pub next_level-requires : goal.next_level-requires
-next_level-requires c = reached_stands _ _ _ c.requires c.loop-filled.invariant c.loop-filled-test.true
+next_level-requires c = reached_stands _ _ _ c.requires c.loop-filled.invariant (omega arith)
 
 pub overflow_add-at : goal.overflow_add-at
 overflow_add-at c =
-    omega (arith, c.well_formed.0.0, (reached_stands _ _ _ c.requires c.loop-filled.invariant c.loop-filled-test.true).twin.room, (reached_long _ _ _ c.requires c.loop-filled.invariant).0)
+    omega (arith, c.well_formed.0.0, (reached_stands _ _ _ c.requires c.loop-filled.invariant (omega arith)).twin.room, (reached_long _ _ _ c.requires c.loop-filled.invariant).0)
 
 pub finer-table-requires : goal.finer-table-requires
 finer-table-requires c =
     let a = reached_small _ _ _ c.requires c.loop-filled.invariant in
     record { halfedges = omega arith; edges = omega arith; vertices = omega arith }
 
-pub overflow_add-filled : goal.overflow_add-filled
-overflow_add-filled c = omega (arith, c.loop-filled-test.true)
-
-pub loop-filled-smaller : goal.loop-filled-smaller
-loop-filled-smaller c = omega (arith, c.loop-filled-test.true)
-
 pub loop-filled-preserved : goal.loop-filled-preserved
-loop-filled-preserved c = reached_on _ _ _ c.requires c.loop-filled.invariant c.loop-filled-test.true c.next_level.ensures c.finer-table.ensures
-
-pub shape_of-twin : goal.shape_of-twin
-shape_of-twin c = (reached_long _ _ _ c.requires c.loop-filled.invariant).0
-
-pub shape_of-vert : goal.shape_of-vert
-shape_of-vert c = (reached_long _ _ _ c.requires c.loop-filled.invariant).1
-
-pub shape_of-edge : goal.shape_of-edge
-shape_of-edge c = (reached_long _ _ _ c.requires c.loop-filled.invariant).2
+loop-filled-preserved c = reached_on _ _ _ c.requires c.loop-filled.invariant (omega arith) c.next_level.ensures c.finer-table.ensures
 
 pub returns : goal.returns
 unfolding stage
 returns c =
-    let e : c.loop-filled.filled ≡ c.args.depth = omega (arith, c.loop-filled.invariant.within, c.loop-filled-test.false) in
+    let e : c.loop-filled.filled ≡ c.args.depth = omega (arith) in
     c.loop-filled.invariant.so_far ∙ ap (stage _ _) e

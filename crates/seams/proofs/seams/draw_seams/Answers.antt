@@ -1,7 +1,6 @@
 -- `draw_seams` takes a step of its definition a turn; the level's points stay where they are.
-use borrow.Author.Rules.{rules}
 use Prim.Native.Nat.{◌<◌}
-use mathlib.Core.Path.{refl, sym}
+use mathlib.Core.Path.{sym}
 use native.Mathlib.Omega.{arith}
 use lib.ListN.{length}
 use Rattle.laws.proofs.Steps.{steps_none, steps_end}
@@ -10,20 +9,17 @@ use Rattle.seams.proofs.Seaming.{seamed_on, seam_on}
 use Rattle.seams.proofs.seams.draw_seams.Goals as goal
 
 pub loop-halfedge-init : goal.loop-halfedge-init
-loop-halfedge-init c = (omega arith, refl, sym (steps_none _ _))
+loop-halfedge-init c = sym (steps_none _ _)
 
 pub draw_any-requires : goal.draw_any-requires
 draw_any-requires c =
     let b : c.loop-halfedge.halfedge < length c.args.vert.now = omega (arith, c.requires.1.edge_long) in
-    (c.requires.0, seamed_on _ _ _ _ _ _ _ c.requires.1 c.loop-halfedge.halfedge b c.loop-halfedge.invariant.2, b, outline_is _ _ c.requires.0)
-
-pub loop-halfedge-smaller : goal.loop-halfedge-smaller
-loop-halfedge-smaller c = omega (arith, c.requires.1.edge_long)
+    (c.requires.0, seamed_on _ _ _ _ _ _ _ c.requires.1 c.loop-halfedge.halfedge b c.loop-halfedge.invariant, b, outline_is _ _ c.requires.0)
 
 pub loop-halfedge-preserved : goal.loop-halfedge-preserved
 loop-halfedge-preserved c =
     let b : c.loop-halfedge.halfedge < length c.args.vert.now = omega (arith, c.requires.1.edge_long) in
-    (omega arith, search rules, seam_on _ _ _ _ _ _ _ c.requires.1 c.loop-halfedge.halfedge b c.loop-halfedge.invariant.2 c.draw_any.ensures)
+    seam_on _ _ _ _ _ _ _ c.requires.1 c.loop-halfedge.halfedge b c.loop-halfedge.invariant c.draw_any.ensures
 
 pub returns : goal.returns
-returns c = steps_end _ _ c.loop-halfedge.invariant.2 (omega (arith, c.requires.1.edge_long))
+returns c = steps_end _ _ c.loop-halfedge.invariant (omega (arith, c.requires.1.edge_long))

@@ -1,7 +1,6 @@
 -- `put_corner` joins the halves of the triangle's twins, whose place in their triangles tells NEXT.
-use native.Mathlib.Omega.{arith}
 use Rattle.splitting.specs.Internal.InPlace.{split_twins, Leaving}
-use Rattle.splitting.proofs.Descent.{two_below, last_next, first_next}
+use Rattle.splitting.proofs.Descent.{last_next, first_next}
 use Rattle.splitting.proofs.above.put_corner.Goals as goal
 use Rattle.splitting.proofs.above.put_corner.Goals.{After-three-twins, Start}
 
@@ -16,17 +15,11 @@ module _ (r : After-three-twins) where
   first : Leaving 0 r.three-twins.result.2
   first = rw r.three-twins.ensures start.requires.corner_triangle.third
 
-pub overflow_sub-wide : goal.overflow_sub-wide
-overflow_sub-wide c = omega (arith, c.wide.ensures, two_below (last (goal.at.overflow_sub-wide c).After-three-twins))
-
 pub twin_halves-requires : goal.twin_halves-requires
 twin_halves-requires c = last_next (last (goal.at.twin_halves-requires c).After-three-twins) c.wide.ensures
 
 pub twin_halves-requires-2 : goal.twin_halves-requires-2
 twin_halves-requires-2 c = first_next (first (goal.at.twin_halves-requires-2 c).After-three-twins) c.wide-2.ensures
-
-pub put-requires : goal.put-requires
-put-requires c = (start (goal.at.put-requires c).After-three-twins).requires.fits
 
 pub returns : goal.returns
 unfolding split_twins

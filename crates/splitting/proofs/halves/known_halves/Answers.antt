@@ -1,8 +1,6 @@
 -- `known_halves` stays small, since NEXT goes up by one at most.
 use Prim.Native.Nat.{◌≤◌}
 use native.Mathlib.Omega.{arith}
-use borrow.Author.Tests.{ne_eqb}
-use Rattle.halfedges.specs.Cage.{marker}
 use Rattle.halfedges.proofs.Triangle.{next_at_most}
 use Rattle.splitting.specs.Internal.InPlace.{most_small}
 use Rattle.splitting.proofs.halves.known_halves.Goals as goal
@@ -19,6 +17,3 @@ overflow_add-result c = omega (arith, small c)
 
 pub overflow_cast-result : goal.overflow_cast-result
 overflow_cast-result c = omega (arith, small c)
-
-pub returns : goal.returns
-returns c = simp (ne_eqb c.args.twin marker (λ e. omega (arith, c.requires.0)), c.requires.1)

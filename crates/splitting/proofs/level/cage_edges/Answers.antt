@@ -1,43 +1,17 @@
 -- `cage_edges` goes through the triangles, and the level that it reads stands untouched before what it writes.
 use native.Mathlib.Omega.{arith}
-use Rattle.splitting.proofs.Triangles.{filled-start, filled_long, filled_three, edges_ready, edges_on, edges_done}
+use Rattle.splitting.proofs.Triangles.{filled-start, edges_ready, edges_on, edges_done}
 use Rattle.splitting.proofs.level.cage_edges.Goals as goal
 
-pub loop-first-init : goal.loop-first-init
-loop-first-init c = filled-start c.requires.housed.0
+pub loop-triangle-init : goal.loop-triangle-init
+loop-triangle-init c = filled-start c.requires.housed.0
 
-pub above_at-a-requires : goal.above_at-a-requires
-above_at-a-requires c = omega (arith, filled_three c.loop-first.invariant c.loop-first-test.true, c.requires.housed.1.room)
+pub put_edges-requires-clause-each_of : goal.put_edges-requires-clause-each_of
+put_edges-requires-clause-each_of c = edges_ready c.requires.housed.1 c.loop-triangle.invariant c.requires.small_edges (omega arith)
 
-pub overflow_add-first : goal.overflow_add-first
-overflow_add-first c = omega (arith, filled_three c.loop-first.invariant c.loop-first-test.true)
-
-pub above_at-b-requires : goal.above_at-b-requires
-above_at-b-requires c = omega (arith, filled_three c.loop-first.invariant c.loop-first-test.true, c.requires.housed.1.room)
-
-pub overflow_add-first-in-loop-first : goal.overflow_add-first-in-loop-first
-overflow_add-first-in-loop-first c = omega (arith, filled_three c.loop-first.invariant c.loop-first-test.true)
-
-pub above_at-c-requires : goal.above_at-c-requires
-above_at-c-requires c = omega (arith, filled_three c.loop-first.invariant c.loop-first-test.true, c.requires.housed.1.room)
-
-pub put_edges-requires : goal.put_edges-requires
-put_edges-requires c =
-    let ready = edges_ready c.requires.housed.1 c.loop-first.invariant c.requires.small_edges c.loop-first-test.true in
-    record { fits = ready.0; each_of = ready.1 }
-
-pub overflow_add-first-in-loop-first-2 : goal.overflow_add-first-in-loop-first-2
-overflow_add-first-in-loop-first-2 c = omega (arith, filled_three c.loop-first.invariant c.loop-first-test.true)
-
-pub loop-first-smaller : goal.loop-first-smaller
-loop-first-smaller c = omega (arith, filled_three c.loop-first.invariant c.loop-first-test.true)
-
-pub loop-first-preserved : goal.loop-first-preserved
-loop-first-preserved c =
-    edges_on c.requires.housed.1 c.loop-first.invariant c.loop-first-test.true (λ j. (c.above_at-a.ensures j, c.above_at-b.ensures j, c.above_at-c.ensures j)) c.put_edges.ensures
-
-pub shape_of-edge : goal.shape_of-edge
-shape_of-edge c = filled_long c.loop-first.invariant
+pub loop-triangle-preserved : goal.loop-triangle-preserved
+loop-triangle-preserved c =
+    edges_on c.requires.housed.1 c.loop-triangle.invariant (omega arith) (λ j. (c.above_at-a.ensures j, c.above_at-b.ensures j, c.above_at-c.ensures j)) c.put_edges.ensures (omega arith)
 
 pub returns : goal.returns
-returns c = edges_done c.requires.housed.1 c.loop-first.invariant c.loop-first-test.false
+returns c = edges_done c.requires.housed.1 c.loop-triangle.invariant (omega arith)

@@ -1,12 +1,7 @@
-use Prim.Native.Nat.{◌-◌, ◌≤◌}
 use mathlib.Core.Path.{◌≡◌}
-use lib.ListN.{length}
 use Rattle.laws.specs.Internal.Steps.{steps}
 use Rattle.spokes.specs.Internal.Fours.{four_spokes}
 use Rattle.spokes.proofs.fours.add_fours.Given as goal
 
 abbrev pub invariant-loop-triangle : goal.invariant-loop-triangle
-invariant-loop-triangle l = (l.triangle ≤ l.triangles) × (length l.points ≡ length l.initial.points) × (l.points ≡ steps l.triangle (four_spokes l.vert l.vertices) l.initial.points)
-
-abbrev pub decreases-loop-triangle : goal.decreases-loop-triangle
-decreases-loop-triangle l = l.triangles - l.triangle
+invariant-loop-triangle l = l.points ≡ steps l.triangle (four_spokes l.vert l.vertices) l.initial.points

@@ -1,12 +1,8 @@
-use Prim.Native.Nat.{◌-◌, ◌*◌, ◌≤◌}
+use Prim.Native.Nat.{◌*◌}
 use mathlib.Core.Path.{◌≡◌}
-use lib.ListN.{length}
 use Rattle.laws.specs.Internal.Steps.{steps}
 use Rattle.spokes.specs.Internal.Spokes.{spoke}
 use Rattle.spokes.proofs.spokes.add_spokes.Given as goal
 
 abbrev pub invariant-loop-triangle : goal.invariant-loop-triangle
-invariant-loop-triangle l = (l.triangle ≤ l.triangles) × (length l.points ≡ length l.initial.points) × (l.points ≡ steps (3 * l.triangle) (spoke l.vert l.vertices) l.initial.points)
-
-abbrev pub decreases-loop-triangle : goal.decreases-loop-triangle
-decreases-loop-triangle l = l.triangles - l.triangle
+invariant-loop-triangle l = l.points ≡ steps (3 * l.triangle) (spoke l.vert l.vertices) l.initial.points

@@ -1,24 +1,14 @@
--- `add_to` stores three sums, each worked out before the first store.
-use Prim.Native.Nat.{◌+◌, ◌*◌}
+-- `add_to` changes three cells, each by its own coordinate.
 use native.Mathlib.Omega.{arith}
-use Rattle.points.proofs.Only.{put_stored}
+use borrow.Author.Rules.{rules}
+use Rattle.points.proofs.Only.{changed_is}
 use Rattle.spokes.specs.Internal.Sums.{add_to}
-use Rattle.spokes.proofs.Added.{adds_one}
+use Rattle.spokes.proofs.Added.{adds_fits, sum_is}
 use Rattle.spokes.proofs.sums.add_to.Goals as goal
 
-pub sum_with-x-requires : goal.sum_with-x-requires
-sum_with-x-requires c = adds_one c.requires 0 (omega arith)
-
-pub sum_with-y-requires : goal.sum_with-y-requires
-sum_with-y-requires c = adds_one c.requires 1 (omega arith)
-
-pub sum_with-z-requires : goal.sum_with-z-requires
-sum_with-z-requires c = adds_one c.requires 2 (omega arith)
+pub change_point-requires : goal.change_point-requires
+change_point-requires c = record { room = omega (arith, c.requires.room, c.requires.below); callable = λ k b. (λ s p g r. omega arith, λ s p g r. b, λ s p g r h. adds_fits c.requires k b) }
 
 pub returns : goal.returns
 unfolding add_to
-returns c =
-    put_stored (3 * c.args.vertices + 3 * c.args.vertex) _ c.args.points.now c.sum_with-x.type_inv c.sum_with-y.type_inv c.sum_with-z.type_inv c.put_point.ensures
-    c.sum_with-x.ensures
-    c.sum_with-y.ensures
-    c.sum_with-z.ensures
+returns c = changed_is _ c.change_point.ensures (λ k b z e. search (rules, sum_is c.requires k b, e))

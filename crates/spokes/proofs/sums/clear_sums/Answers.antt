@@ -1,20 +1,15 @@
--- `clear_sums` takes one step of its definition a turn.
-use mathlib.Core.Path.{refl, sym, ap, ◌∙◌}
+-- `clear_sums` fills the cells that its definition makes 0 one by one.
+use Prim.Native.Nat.{◌*◌}
+use mathlib.Core.Path.{ap, ◌∙◌}
 use native.Mathlib.Omega.{arith}
-use lib.ListN.{length-set}
-use Rattle.laws.proofs.Steps.{steps_none, steps_more, steps_end}
-use Rattle.spokes.specs.Internal.Sums.{clear_cell}
+use lib.IntN.{pos}
+use lib.ListN.{replicate}
+use Rattle.std.proofs.lemmas.List.Edits.{length-between}
+use Rattle.spokes.proofs.Cleared.{filled_is}
 use Rattle.spokes.proofs.sums.clear_sums.Goals as goal
 
-pub loop-i-init : goal.loop-i-init
-loop-i-init c = (omega arith, refl, sym (steps_none _ _))
-
-pub loop-i-preserved : goal.loop-i-preserved
-unfolding clear_cell
-loop-i-preserved c =
-    let l = c.loop-i in
-    let n = c.args.vertices in
-    (omega arith, simp length-set l.invariant.1, ap (clear_cell n l.i) l.invariant.2 ∙ sym (steps_more (clear_cell n) c.args.points.now l.i))
-
 pub returns : goal.returns
-returns c = steps_end _ _ c.loop-i.invariant.2 (omega arith)
+returns c =
+    let n = c.args.vertices in
+    filled_is n c.args.points.now c.requires (omega arith)
+    (c.fill.ensures.after (λ y e. e) ∙ ap (λ k. replicate k (pos 0)) (length-between c.args.points.now (3 * n) (6 * n) c.requires))

@@ -1,6 +1,4 @@
-use Prim.Native.Nat.{◌-◌, ◌≤◌}
 use mathlib.Core.Path.{◌≡◌}
-use lib.ListN.{length}
 use Rattle.laws.specs.Below.{tabulate, count}
 use Rattle.laws.specs.Parts.{in_front}
 use Rattle.triangles.specs.Plain.{is_lowest, edge_of}
@@ -8,10 +6,5 @@ use Rattle.triangles.proofs.edges.write_edges.Given as goal
 
 abbrev pub invariant-loop-halfedge : goal.invariant-loop-halfedge
 invariant-loop-halfedge l =
-    (length l.edge ≡ length l.initial.edge)
-    × (l.halfedge ≤ length l.twin)
-    × (l.edges ≡ count l.halfedge (is_lowest l.twin))
+    (l.edges ≡ count l.halfedge (is_lowest l.twin))
     × (l.edge ≡ in_front (tabulate l.halfedge (edge_of l.twin)) l.initial.edge)
-
-abbrev pub decreases-loop-halfedge : goal.decreases-loop-halfedge
-decreases-loop-halfedge l = length l.twin - l.halfedge

@@ -1,6 +1,6 @@
 -- `build_twins` takes small corner numbers as they are, and others narrowed.
 use Prim.Native.Nat.{ℕ, ◌%◌, ◌≤◌, ◌<◌}
-use mathlib.Core.Path.{◌≡◌, sym, ap, ap₂, ◌∙◌}
+use mathlib.Core.Path.{◌≡◌, ap, ap₂, ◌∙◌}
 use mathlib.Core.List.{List}
 use native.Mathlib.Omega.{arith}
 use lib.Dec.{eqb}
@@ -45,15 +45,6 @@ module _ (c : After-narrow) where
 
   same : (g h : ℕ) → g < length vert → h < length vert → eqb (cell corners g) (cell corners h) ≡ eqb (cell vert g) (cell vert h)
   same g h m l = ap₂ eqb (corner g m) (corner h l) ∙ c.narrow.ensures.same g h m l
-
-pub join-requires : goal.join-requires
-join-requires c = (c.requires.0, c.are_small.ensures c.if-are_small.true, c.requires.1)
-
-pub slice_bounds-join-end : goal.slice_bounds-join-end
-slice_bounds-join-end c = sym (long (goal.at.slice_bounds-join-end c).After-narrow)
-
-pub join-requires-2 : goal.join-requires-2
-join-requires-2 c = (whole (goal.at.join-requires-2 c).After-narrow, small (goal.at.join-requires-2 c).After-narrow, omega (arith, long (goal.at.join-requires-2 c).After-narrow, (start (goal.at.join-requires-2 c).After-narrow).requires.1))
 
 pub returns : goal.returns
 returns c =

@@ -1,6 +1,6 @@
 -- `join` lists the ends, and joins by them.
 use Prim.Native.Nat.{ℕ}
-use mathlib.Core.Path.{◌≡◌, sym, ap, ◌∙◌}
+use mathlib.Core.Path.{◌≡◌, sym}
 use mathlib.Core.List.{List}
 use lib.ListN.{length, take}
 use Rattle.laws.proofs.InFront.{taken_in_front}
@@ -23,9 +23,6 @@ module _ (c : After-list_ends) where
 
   listed : take (length vert) c.list_ends.new.ends ≡ end_table vert
   listed = taken_in_front (end_table vert) _ c.list_ends.ensures (sym (ends_many vert))
-
-pub slice_bounds-join_ends-end : goal.slice_bounds-join_ends-end
-slice_bounds-join_ends-end c = sym (ap length (listed (goal.at.slice_bounds-join_ends-end c).After-list_ends) ∙ ends_many (vert (goal.at.slice_bounds-join_ends-end c).After-list_ends))
 
 pub join_ends-requires : goal.join_ends-requires
 join_ends-requires c = (record { whole = (start (goal.at.join_ends-requires c).After-list_ends).requires.0; small = (start (goal.at.join_ends-requires c).After-list_ends).requires.1; listed = listed (goal.at.join_ends-requires c).After-list_ends }, (start (goal.at.join_ends-requires c).After-list_ends).requires.2)

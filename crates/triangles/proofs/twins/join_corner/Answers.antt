@@ -1,6 +1,5 @@
 -- `join_corner` looks for the twin of the halfedge before the corner, and at the first of its own.
 use Prim.Native.Nat.{◌<◌}
-use mathlib.Core.Path.{refl}
 use native.Mathlib.Omega.{arith}
 use lib.ListN.{length}
 use Rattle.alike.specs.Internal.Alike.{bound}
@@ -32,15 +31,6 @@ offset_bounds-vert-previous c = omega (arith, inside c, (start c).requires.ended
 pub bounds-vert-previous : goal.bounds-vert-previous
 bounds-vert-previous c = inside (goal.at.bounds-vert-previous c).After-previous-previous
 
-pub overflow_cast-start : goal.overflow_cast-start
-overflow_cast-start c = omega (arith, small (goal.at.overflow_cast-start c).After-previous-previous)
-
-pub offset_bounds-marks-start : goal.offset_bounds-marks-start
-offset_bounds-marks-start c = omega (arith, small (goal.at.offset_bounds-marks-start c).After-previous-previous)
-
-pub bounds-marks-start : goal.bounds-marks-start
-bounds-marks-start c = omega (arith, small (goal.at.bounds-marks-start c).After-previous-previous, (start (goal.at.bounds-marks-start c).After-previous-previous).requires.bound_in_bounds.0)
-
 pub twin_of-requires : goal.twin_of-requires
 twin_of-requires c = ((start (goal.at.twin_of-requires c).After-previous-previous).requires.ended.0, inside (goal.at.twin_of-requires c).After-previous-previous)
 
@@ -53,18 +43,5 @@ bounds-twin-previous c = omega (arith, inside (goal.at.bounds-twin-previous c).A
 pub bounds-ends-halfedge : goal.bounds-ends-halfedge
 bounds-ends-halfedge c = let s = start (goal.at.bounds-ends-halfedge c).After-previous-previous in omega (arith, s.requires.ended.1, ends_long s.requires.ended.0)
 
-pub overflow_cast-end : goal.overflow_cast-end
-overflow_cast-end c = omega (arith, end_small (goal.at.overflow_cast-end c).After-previous-previous)
-
-pub offset_bounds-marks-end : goal.offset_bounds-marks-end
-offset_bounds-marks-end c = omega (arith, end_small (goal.at.offset_bounds-marks-end c).After-previous-previous)
-
 pub bounds-marks-end : goal.bounds-marks-end
 bounds-marks-end c = omega (arith, end_small (goal.at.bounds-marks-end c).After-previous-previous, (start (goal.at.bounds-marks-end c).After-previous-previous).requires.bound_in_bounds.0)
-
-pub overflow_cast-marks : goal.overflow_cast-marks
-overflow_cast-marks c = let s = start (goal.at.overflow_cast-marks c).After-previous-previous in omega (arith, c.shared_slice_known-7-1.given (cell s.args.ends.now s.args.halfedge))
-
-pub returns : goal.returns
-returns c =
-    record { lower = c.lower_place.ensures; twin_after = rw (c.twin_of.ensures, c.previous-previous.ensures) refl }
