@@ -1,9 +1,9 @@
--- `field_refusal` goes through the definition's three checks in order; the tag and the length are one of them.
+-- `check_field` goes through the definition's three checks in order; the tag and the length are one of them.
 use mathlib.Core.Path.{sym, ◌∙◌}
 use borrow.Author.Tests.{eq-eqb, ne_eqb, lt-ltb, le-ltb}
 use Rattle.halfedges.specs.Refusals.{given, first}
 use Rattle.filechecks.specs.FileChecks.{field_checks}
-use Rattle.filechecks.proofs.field_refusal.Goals as goal
+use Rattle.filechecks.proofs.check_field.Goals as goal
 
 pub returns-then-file-at : goal.returns-then-file-at
 unfolding field_checks first given
