@@ -112,6 +112,7 @@ pub fn short_levels(
 }
 
 // The first of three lent tables that is shorter than the room.
+#[tactic(auto, unfolding(crate::specs::Refining::short_tables, halfedges::specs::Refusals::short, halfedges::specs::Refusals::given, halfedges::specs::Refusals::first))]
 fn short_table(room: usize, twin: &[u32], vert: &[u32], edge: &[u32]) -> Result<(), Refusal>
     ensures { told result ≡ first (short_tables room (tables twin.now vert.now edge.now)) }
 {
