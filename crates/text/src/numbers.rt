@@ -2,6 +2,9 @@
 ghost use Rattle.std.specs.Prelude.{◌≡◌, true, ℕ, ◌-◌, ◌^◌, ◌≤◌, ◌<◌, length, get_or, SomeIff};
 ghost use Rattle.text.specs.Numbers.{is_digit, digit_count, worth, number_in, number_at};
 
+// The most digits that a number has.
+const MOST_DIGITS: usize = 20;
+
 // A number of 64 bits, and where the text goes on after it.
 #[derive(Clone, Copy)]
 pub struct Number {
@@ -25,7 +28,7 @@ fn number_in(text: &[u8], after: u8) -> Option<Number>
     ensures { result ≡ number_in text.now after }
 {
     let digits = digit_count(text);
-    if digits == 0 || 20 < digits || digits == text.len() || text[digits] != after {
+    if digits == 0 || MOST_DIGITS < digits || digits == text.len() || text[digits] != after {
         return None;
     }
     let value = worth(&text[..digits])?;
