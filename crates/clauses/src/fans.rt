@@ -30,14 +30,9 @@ pub fn fan_clause(twin: &[u32], vert: &[u32], vertex: usize) -> Clause
 fn lowest_corner(vert: &[u32], vertex: usize) -> usize
     ensures { result ≡ lowest_corner vert.now vertex }
 {
-    let mut halfedge = 0;
-    while halfedge < vert.len() {
-        if wide(vert[halfedge]) == vertex {
-            return halfedge;
-        }
-        halfedge += 1;
-    }
-    halfedge
+    vert.iter()
+        .position(|corner| wide(*corner) == vertex)
+        .unwrap_or(vert.len())
 }
 
 // The lowest corner at a vertex without a mark; H where there is none.
@@ -45,32 +40,12 @@ fn lowest_apart(marks: &[u32], twin: &[u32], vert: &[u32], vertex: usize, corner
     requires { (Joins twin.now corner marks.now) × (length vert.now ≡ length twin.now) × (length vert.now ≤ length marks.now) }
     ensures { result ≡ lowest_apart twin.now vert.now vertex corner }
 {
-    let mut halfedge = 0;
-    while halfedge < vert.len() {
-        if is_apart(marks, twin, vert, vertex, corner, halfedge) {
+    for halfedge in 0..vert.len() {
+        if wide(vert[halfedge]) == vertex && marks[halfedge] == 0 {
             return halfedge;
         }
-        halfedge += 1;
     }
-    halfedge
-}
-
-// Whether a halfedge is one of the vertex's corners and has no mark.
-fn is_apart(
-    marks: &[u32],
-    twin: &[u32],
-    vert: &[u32],
-    vertex: usize,
-    corner: usize,
-    halfedge: usize,
-) -> bool
-    requires { (Joins twin.now corner marks.now) × (length vert.now ≡ length twin.now) × (length vert.now ≤ length marks.now) × (halfedge < length vert.now) }
-    ensures { result ≡ apart twin.now vert.now vertex corner halfedge }
-{
-    if wide(vert[halfedge]) != vertex {
-        return false;
-    }
-    marks[halfedge] == 0
+    vert.len()
 }
 
 // Marks all that is joined with a corner: first along the links, then against them.
@@ -89,8 +64,7 @@ fn mark(twin: &[u32], marks: &mut [u32], corner: usize, along: bool)
     ensures { Marked twin.now along corner marks.old marks.new }
 {
     let mut at = corner;
-    let mut turn = 0;
-    while turn <= twin.len() {
+    for _turn in 0..=twin.len() {
         marks[at] = 1;
         let other = step(twin, at, along);
         if other == HalfedgeTable::NO_TWIN {
@@ -100,7 +74,6 @@ fn mark(twin: &[u32], marks: &mut [u32], corner: usize, along: bool)
         if at == corner {
             return;
         }
-        turn += 1;
     }
 }
 

@@ -119,25 +119,18 @@ fn lowest_stranger(twin: &[u32], edge: &[u32], halfedge: usize) -> usize
     requires { (length edge.now ≡ length twin.now) × (halfedge < length twin.now) }
     ensures { result ≡ lowest_stranger twin.now edge.now halfedge }
 {
-    let mut place = 0;
-    while place < edge.len() {
+    for place in 0..edge.len() {
         if is_stranger(twin, edge, halfedge, place) {
             return place;
         }
-        place += 1;
     }
-    place
+    edge.len()
 }
 
+// Whether a halfedge that is neither one nor its twin has its edge.
 fn is_stranger(twin: &[u32], edge: &[u32], halfedge: usize, place: usize) -> bool
     requires { (length edge.now ≡ length twin.now) × (halfedge < length twin.now) × (place < length edge.now) }
     ensures { result ≡ stranger twin.now edge.now halfedge place }
 {
-    if edge[place] != edge[halfedge] {
-        return false;
-    }
-    if place == halfedge {
-        return false;
-    }
-    place != wide(twin[halfedge])
+    edge[place] == edge[halfedge] && place != halfedge && place != wide(twin[halfedge])
 }

@@ -1,12 +1,13 @@
--- `is_stranger` goes through the three tests in order.
-use Rattle.clauses.proofs.Broken.{stranger_other, stranger_itself, stranger_twin}
+-- `is_stranger` makes its definition's three tests.
+use Rattle.std.proofs.Common.{arith}
+use Rattle.std.proofs.lemmas.Bool.Decides.{nat_tests}
+use Rattle.tables.specs.Rules.{stranger}
 use Rattle.clauses.proofs.rules.is_stranger.Goals as goal
 
-pub returns-then-edge-place : goal.returns-then-edge-place
-returns-then-edge-place c = stranger_other _ _ _ _ c.if-edge-place.true
-
 pub returns-then-place-halfedge : goal.returns-then-place-halfedge
-returns-then-place-halfedge c = stranger_itself _ _ _ _ c.if-edge-place.false c.if-place-halfedge.true
+unfolding stranger
+returns-then-place-halfedge c = grind (arith, nat_tests)
 
-pub returns : goal.returns
-returns c = rw c.wide.ensures (stranger_twin _ _ _ _ c.if-edge-place.false c.if-place-halfedge.false)
+pub returns-else-place-halfedge : goal.returns-else-place-halfedge
+unfolding stranger
+returns-else-place-halfedge c = grind (arith, nat_tests)
