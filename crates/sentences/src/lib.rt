@@ -15,20 +15,9 @@ use tables::check::Checked;
 use text::lines;
 
 // What stands for a number in a text.
-const HASH: u8 = 35;
+const HASH: u8 = b'#';
 
 // ---- a text with numbers
-
-// One of some numbers, 0 where there are no more.
-fn number_at(numbers: [usize; 5], at: usize) -> usize
-    requires { length numbers ≡ 5 }
-    ensures { result ≡ get_or numbers at 0 }
-{
-    if at < 5 {
-        return numbers[at];
-    }
-    0
-}
 
 // A byte of a text as it stands, or the number that it stands for.
 fn put_piece(out: &mut [u8], at: usize, byte: u8, number: usize) -> usize
@@ -49,14 +38,12 @@ fn put_saying(out: &mut [u8], text: &[u8], numbers: [usize; 5]) -> usize
 {
     let mut at = 0;
     let mut used = 0;
-    let mut i = 0;
-    while i < text.len() {
-        let byte = text[i];
-        at = put_piece(&mut *out, at, byte, number_at(numbers, used));
-        if byte == HASH {
+    for byte in text {
+        let number = numbers.get(used).copied().unwrap_or(0);
+        at = put_piece(&mut *out, at, *byte, number);
+        if *byte == HASH {
             used += 1;
         }
-        i += 1;
     }
     lines::put_byte(&mut *out, at, lines::NEWLINE)
 }
@@ -90,13 +77,11 @@ fn put_clause(
     ensures { Put out.old 0 2048 (of_three clause one.now two.now three.now numbers)
         out.new result }
 {
-    if clause == 1 {
-        return put_saying(&mut *out, one, numbers);
+    match clause {
+        1 => put_saying(&mut *out, one, numbers),
+        2 => put_saying(&mut *out, two, numbers),
+        _ => put_saying(&mut *out, three, numbers),
     }
-    if clause == 2 {
-        return put_saying(&mut *out, two, numbers);
-    }
-    put_saying(&mut *out, three, numbers)
 }
 
 // Rule 3.

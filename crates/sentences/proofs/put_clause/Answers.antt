@@ -5,17 +5,17 @@ use Rattle.text.proofs.Texts.{put_within}
 use Rattle.sentences.specs.Sentences.{of_three}
 use Rattle.sentences.proofs.put_clause.Goals as goal
 
-pub returns-then-clause-eq1 : goal.returns-then-clause-eq1
+pub returns-in-1 : goal.returns-in-1
 unfolding of_three
-returns-then-clause-eq1 c =
-    rw (eq-eqb _ 1 c.if-clause-eq1.true) (put_within (omega arith) c.put_saying.ensures)
+returns-in-1 c =
+    rw (eq-eqb _ 1 c.in-1.is) (put_within (omega arith) c.put_saying.ensures)
 
-pub returns-then-clause-eq2 : goal.returns-then-clause-eq2
+pub returns-in-2 : goal.returns-in-2
 unfolding of_three
-returns-then-clause-eq2 c =
-    rw (ne_eqb _ 1 c.if-clause-eq1.false, eq-eqb _ 2 c.if-clause-eq2.true) (put_within (omega arith) c.put_saying-then-clause-eq2.ensures)
+returns-in-2 c =
+    rw (ne_eqb c.args.clause 1 (omega arith), eq-eqb c.args.clause 2 (omega arith)) (put_within (omega arith) c.put_saying-in-2.ensures)
 
-pub returns : goal.returns
+pub returns-in_default : goal.returns-in_default
 unfolding of_three
-returns c =
-    rw (ne_eqb _ 1 c.if-clause-eq1.false, ne_eqb _ 2 c.if-clause-eq2.false) (put_within (omega arith) c.put_saying-2.ensures)
+returns-in_default c =
+    rw (ne_eqb c.args.clause 1 (omega arith), ne_eqb c.args.clause 2 (omega arith)) (put_within (omega arith) c.put_saying-in_default.ensures)
