@@ -9,21 +9,20 @@ use lib.ListN.{length, take}
 use lib.Seq.{take_all, length-take-le}
 use borrow.Author.Tests.{ne_eqb}
 use Rattle.text.specs.declared.numbers.Number.{Number}
-use Rattle.text.specs.declared.numbers.Number.TheVariants.{Missing, Found}
+use Rattle.std.specs.Prelude.{Option, Some, None}
 use Rattle.text.specs.Lines.{space, newline}
 use Rattle.text.specs.Numbers.{number_at}
 use Rattle.text.proofs.Numerals.{Soon, found_soon}
 use Rattle.counter.specs.declared.question.Question.{Question}
-use Rattle.counter.specs.declared.question.Question.TheVariants.{Unasked}
 use Rattle.counter.specs.Counting.{with_number, asked, reply_to, count_reply}
 use Rattle.counter.specs.Internal.Buffer.{longest}
 
 -- a question that goes on where a number ends, wherever that is, is none
-unasked : (at : ℕ) (r : Number) (next : ℕ → ℕ → Question) → Soon at r → ((value i : ℕ) → i ≤ at + 21 → next value i ≡ Unasked) → with_number r next ≡ Unasked
-unasked at Missing next s f = refl
-unasked at (Found value i) next s f = f value i s
+unasked : (at : ℕ) (r : Option Number) (next : ℕ → ℕ → Option Question) → Soon at r → ((value i : ℕ) → i ≤ at + 21 → next value i ≡ None) → with_number r next ≡ None
+unasked at None next s f = refl
+unasked at (Some n) next s f = f n.value n.next s
 
-too_long : (text : List ℕ) → longest < length text → asked text ≡ Unasked
+too_long : (text : List ℕ) → longest < length text → asked text ≡ None
 unfolding asked
 too_long text l =
     unasked 0 (number_at text 0 space) _ (found_soon text 0 space) (λ _ i li.

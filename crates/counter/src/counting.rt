@@ -8,9 +8,8 @@ ghost use Rattle.text.specs.Internal.Put.{Put, Replied};
 ghost use Rattle.counter.specs.Counting.{count_line, count_lines, counting, count_reply};
 
 use crate::question;
-use crate::question::Question;
 use halfedges::table::{HalfedgeTable, Levels};
-use text::replies::Written;
+use text::replies::{Status, Written};
 use text::{lines, replies};
 
 // The reply to any bytes, its text at the front of out.
@@ -26,25 +25,13 @@ fn count_into(text: &[u8], out: &mut [u8]) -> Written
     requires { 1024 ≤ length out.old }
     ensures { Replied out.old 1024 (count_reply text.now) out.new result }
 {
-    let question = question::ask(text);
-    let Question::Asked {
-        halfedges,
-        edges,
-        vertices,
-        depth,
-    } = question
-    else {
+    let Some(question) = question::ask(text) else {
         return replies::put_misuse(
             &mut *out,
             b"ryebadger: a count question is H E V DEPTH on one line, each at most 18446744073709551615 in at most 20 digits",
         );
     };
-    let table = HalfedgeTable {
-        halfedges,
-        edges,
-        vertices,
-    };
-    put_counting(&mut *out, table, depth)
+    put_counting(&mut *out, question.table, question.depth)
 }
 
 // The answer to the count question, or its refusal.
@@ -60,7 +47,7 @@ fn put_counting(out: &mut [u8], table: HalfedgeTable, depth: usize) -> Written
     let levels = counted.levels;
     let length = put_levels(&mut *out, levels, depth);
     Written {
-        status: replies::ANSWERED,
+        status: Status::Answered,
         length,
     }
 }
@@ -86,15 +73,13 @@ fn put_lines(out: &mut [u8], levels: Levels, depth: usize) -> usize
     ensures { Put out.old 0 735 (end_to_end (suc depth) (count_line levels)) out.new result }
 {
     let mut at = 0;
-    let mut level = 0;
-    while level <= depth {
+    for level in 0..=depth {
         at = lines::put_counts(
             &mut *out,
             at,
             lines::counts_of(levels, level),
             lines::NEWLINE,
         );
-        level += 1;
     }
     at
 }

@@ -2,61 +2,35 @@
 ghost use Rattle.std.specs.Prelude.{◌≡◌};
 ghost use Rattle.counter.specs.Counting.{asked};
 
-use text::numbers::Number;
+use halfedges::table::HalfedgeTable;
 use text::{lines, numbers};
 
-// H, E, V and a depth; or no question.
+// H, E, V and a depth.
 #[derive(Clone, Copy)]
-pub enum Question {
-    Unasked,
-    Asked {
-        halfedges: usize,
-        edges: usize,
-        vertices: usize,
-        depth: usize,
-    },
+pub struct Question {
+    pub table: HalfedgeTable,
+    pub depth: usize,
 }
 
-// The question that a text is.
+// The question that a text is, if it is one.
 #[tactic(auto, unfolding(crate::specs::Counting::asked))]
-pub fn ask(text: &[u8]) -> Question
+pub fn ask(text: &[u8]) -> Option<Question>
     ensures { result ≡ asked text.now }
 {
-    let Number::Found {
-        value: halfedges,
-        next: edges_at,
-    } = numbers::number_at(text, 0, lines::SPACE)
-    else {
-        return Question::Unasked;
-    };
-    let Number::Found {
-        value: edges,
-        next: vertices_at,
-    } = numbers::number_at(text, edges_at, lines::SPACE)
-    else {
-        return Question::Unasked;
-    };
-    let Number::Found {
-        value: vertices,
-        next: depth_at,
-    } = numbers::number_at(text, vertices_at, lines::SPACE)
-    else {
-        return Question::Unasked;
-    };
-    let Number::Found {
-        value: depth,
-        next: end,
-    } = numbers::number_at(text, depth_at, lines::NEWLINE)
-    else {
-        return Question::Unasked;
-    };
-    if end != text.len() {
-        return Question::Unasked;
+    let halfedges = numbers::number_at(text, 0, lines::SPACE)?;
+    let edges = numbers::number_at(text, halfedges.next, lines::SPACE)?;
+    let vertices = numbers::number_at(text, edges.next, lines::SPACE)?;
+    let depth = numbers::number_at(text, vertices.next, lines::NEWLINE)?;
+    if depth.next != text.len() {
+        return None;
     }
-    Question::Asked {
-        halfedges,
-        edges,
-        vertices,
-        depth,
-    }
+    let table = HalfedgeTable {
+        halfedges: halfedges.value,
+        edges: edges.value,
+        vertices: vertices.value,
+    };
+    Some(Question {
+        table,
+        depth: depth.value,
+    })
 }

@@ -8,9 +8,9 @@ use Rattle.counter.proofs.counting.count_into.Goals as goal
 pub returns-in_default : goal.returns-in_default
 unfolding count_reply
 returns-in_default c =
-    replied_as (ap reply_to (sym c.in_default.is ∙ c.ask-question.ensures)) (replied_within (omega arith) c.put_misuse.ensures)
+    replied_as (ap reply_to (sym c.in_default.is ∙ c.ask.ensures)) (replied_within (omega arith) c.put_misuse.ensures)
 
 pub returns : goal.returns
 unfolding count_reply
 returns c =
-    replied_as (ap reply_to (sym c.in-Asked.is ∙ c.ask-question.ensures)) c.put_counting.ensures
+    replied_as (ap reply_to (sym c.in-Some.is ∙ c.ask.ensures)) c.put_counting.ensures
