@@ -8,8 +8,7 @@ use Rattle.halfedges.specs.Refusals.{Verdict}
 use Rattle.tables.specs.Tables.{Tables}
 use Rattle.tables.specs.Internal.Walks.{Walkable}
 use Rattle.tables.specs.Internal.Relied.{ForPlaces}
-use Rattle.clauses.specs.declared.Clause.{Clause}
-use Rattle.clauses.specs.Clauses.{no_clause, twin_clause, vertex_clause, unused_clause, edge_clause, fan_clause, clause_at}
+use Rattle.clauses.specs.Clauses.{Clause, no_clause, twin_clause, vertex_clause, unused_clause, edge_clause, fan_clause, clause_at}
 use Rattle.clauses.specs.Explained.{TwinBroken, VertexBroken, UseBroken, EdgeBroken, FanBroken, Explained}
 use Rattle.clauses.specs.Internal.Reached.{Reached}
 use Rattle.clauses.proofs.Broken.{twin_broken, vertex_broken, use-broken, edge_broken}

@@ -3,3 +3,4 @@ pub mod Marking
 pub mod Apart
 pub mod Explained
 pub mod Numbers
+pub mod Alike

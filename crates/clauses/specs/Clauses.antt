@@ -6,9 +6,15 @@ use Rattle.halfedges.specs.Refusals.{Verdict}
 use Rattle.tables.specs.Tables.{Tables, leaves}
 use Rattle.tables.specs.Rules.{twin_past, twin_itself, not_returned, vertex_past, ends_alike, twin_ends_differ, edge_past, edge_differs, stranger, edge_shared}
 use Rattle.tables.specs.Fans.{joined}
-use Rattle.clauses.specs.declared.Clause.{Clause}
 
--- a clause by its number in the rule, with three numbers; "numbers not named are 0"
+-- a clause by its number in the rule, with three numbers
+pub record Clause : Type 0 where
+  pub number : ℕ
+  pub first : ℕ
+  pub second : ℕ
+  pub third : ℕ
+
+-- "numbers not named are 0"
 abbrev pub clause : ℕ → ℕ → ℕ → ℕ → Clause
 clause n x y z = record { number = n; first = x; second = y; third = z }
 

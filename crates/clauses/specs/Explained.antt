@@ -4,8 +4,7 @@ use Rattle.halfedges.specs.Cage.{NEXT, marker, cell, E}
 use Rattle.halfedges.specs.Refusals.{Verdict, TWIN, VERTEX, UNUSED, EDGE, FAN}
 use Rattle.tables.specs.Tables.{Tables}
 use Rattle.tables.specs.Fans.{Joined}
-use Rattle.clauses.specs.declared.Clause.{Clause}
-use Rattle.clauses.specs.Clauses.{clause, no_clause}
+use Rattle.clauses.specs.Clauses.{Clause, clause, no_clause}
 
 -- 3
 pub data TwinBroken (twin : List ℕ) (h : ℕ) : Clause → Type 0 where

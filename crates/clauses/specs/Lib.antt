@@ -1,3 +1,4 @@
 pub mod Clauses
+pub mod Shown
 pub mod Explained
 pub mod Internal

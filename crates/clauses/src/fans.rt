@@ -1,8 +1,10 @@
 // Rule 7 at a vertex: what is joined with its lowest corner is marked, and the lowest corner without a mark is found.
 ghost use Rattle.std.specs.Prelude.{◌≡◌, true, ℕ, ◌≤◌, ◌<◌, length, get_or};
+ghost use Rattle.halfedges.specs.Refusals.{FAN};
 ghost use Rattle.tables.specs.Fans.{not_one_fan};
 ghost use Rattle.tables.specs.Internal.Walks.{Walkable};
 ghost use Rattle.clauses.specs.Clauses.{lowest_corner, apart, lowest_apart, fan_clause};
+ghost use Rattle.clauses.specs.Shown.{named, broken};
 ghost use Rattle.clauses.specs.Internal.Marks.{step as Marks-step, Marked, Joins};
 
 use crate::Clause;
@@ -12,17 +14,16 @@ use tables::cells::wide;
 // Rule 7, where rule 3 is kept.
 pub fn fan_clause(twin: &[u32], vert: &[u32], vertex: usize) -> Clause
     requires { (Walkable twin.now) × (length vert.now ≡ length twin.now) × (not_one_fan twin.now vert.now vertex ≡ true) }
-    ensures { result ≡ fan_clause twin.now vert.now vertex }
+    ensures value { named result ≡ fan_clause twin.now vert.now vertex }
+    ensures rule { broken result vertex ≡ FAN vertex }
 {
     let corner = lowest_corner(vert, vertex);
     let mut marks = [0u32; HalfedgeTable::MOST_HALFEDGES];
     mark_joined(twin, &mut marks, corner);
     let other = lowest_apart(&marks, twin, vert, vertex, corner);
-    Clause {
-        number: 1,
-        first: corner as u32,
-        second: other as u32,
-        third: 0,
+    Clause::Apart {
+        corner: corner as u32,
+        other: other as u32,
     }
 }
 
@@ -30,14 +31,9 @@ pub fn fan_clause(twin: &[u32], vert: &[u32], vertex: usize) -> Clause
 fn lowest_corner(vert: &[u32], vertex: usize) -> usize
     ensures { result ≡ lowest_corner vert.now vertex }
 {
-    let mut halfedge = 0;
-    while halfedge < vert.len() {
-        if wide(vert[halfedge]) == vertex {
-            return halfedge;
-        }
-        halfedge += 1;
-    }
-    halfedge
+    vert.iter()
+        .position(|corner| wide(*corner) == vertex)
+        .unwrap_or(vert.len())
 }
 
 // The lowest corner at a vertex without a mark; H where there is none.
@@ -45,32 +41,12 @@ fn lowest_apart(marks: &[u32], twin: &[u32], vert: &[u32], vertex: usize, corner
     requires { (Joins twin.now corner marks.now) × (length vert.now ≡ length twin.now) × (length vert.now ≤ length marks.now) }
     ensures { result ≡ lowest_apart twin.now vert.now vertex corner }
 {
-    let mut halfedge = 0;
-    while halfedge < vert.len() {
-        if is_apart(marks, twin, vert, vertex, corner, halfedge) {
+    for halfedge in 0..vert.len() {
+        if wide(vert[halfedge]) == vertex && marks[halfedge] == 0 {
             return halfedge;
         }
-        halfedge += 1;
     }
-    halfedge
-}
-
-// Whether a halfedge is one of the vertex's corners and has no mark.
-fn is_apart(
-    marks: &[u32],
-    twin: &[u32],
-    vert: &[u32],
-    vertex: usize,
-    corner: usize,
-    halfedge: usize,
-) -> bool
-    requires { (Joins twin.now corner marks.now) × (length vert.now ≡ length twin.now) × (length vert.now ≤ length marks.now) × (halfedge < length vert.now) }
-    ensures { result ≡ apart twin.now vert.now vertex corner halfedge }
-{
-    if wide(vert[halfedge]) != vertex {
-        return false;
-    }
-    marks[halfedge] == 0
+    vert.len()
 }
 
 // Marks all that is joined with a corner: first along the links, then against them.
@@ -89,8 +65,7 @@ fn mark(twin: &[u32], marks: &mut [u32], corner: usize, along: bool)
     ensures { Marked twin.now along corner marks.old marks.new }
 {
     let mut at = corner;
-    let mut turn = 0;
-    while turn <= twin.len() {
+    for _turn in 0..=twin.len() {
         marks[at] = 1;
         let other = step(twin, at, along);
         if other == HalfedgeTable::NO_TWIN {
@@ -100,7 +75,6 @@ fn mark(twin: &[u32], marks: &mut [u32], corner: usize, along: bool)
         if at == corner {
             return;
         }
-        turn += 1;
     }
 }
 

@@ -1,72 +1,97 @@
 // Why tables are sent back: the clause of the rule that is broken, and its numbers.
 #![tactic(auto)]
 
-ghost use Rattle.std.specs.Prelude.{◌≡◌};
-ghost use Rattle.halfedges.specs.Refusals.{told};
+ghost use Rattle.std.specs.Prelude.{◌≡◌, IfSome};
+ghost use Rattle.halfedges.specs.Refusals.{refused};
 ghost use Rattle.tables.specs.Tables.{tables};
-ghost use Rattle.clauses.specs.Clauses.{no_clause, clause_at};
+ghost use Rattle.clauses.specs.Clauses.{clause_at};
+ghost use Rattle.clauses.specs.Shown.{numbers, named, shown, broken};
 ghost use Rattle.clauses.specs.Internal.Reached.{Reached};
 
-use halfedges::answer::Answer;
+use halfedges::refusal::Refusal;
 
 mod fans;
 mod rules;
 
-// A clause by its number in the rule, and the numbers shown for it; all 0 where there is none.
-#[derive(Clone, Copy)]
-pub struct Clause {
-    pub number: u32,
-    pub first: u32,
-    pub second: u32,
-    pub third: u32,
+// The clauses of rules 3 to 7, each with the numbers shown for it.
+#[derive(Clone, Copy, Debug, PartialEq, Eq)]
+pub enum Clause {
+    TwinPast { twin: u32, halfedges: u32 },
+    TwinItself { twin: u32 },
+    NotReturned { twin: u32, back: u32 },
+    VertexPast { vertex: u32, vertices: u32 },
+    EndsAlike { vertex: u32, next: u32 },
+    TwinEndsDiffer { twin: u32, start: u32, end: u32 },
+    Unused { vertex: u32 },
+    EdgePast { edge: u32, edges: u32 },
+    EdgeDiffers { twin: u32, own: u32, other: u32 },
+    EdgeShared { edge: u32, stranger: u32 },
+    Apart { corner: u32, other: u32 },
 }
 
 impl Clause {
-    // No clause.
-    pub fn none() -> Clause
-        ensures { result ≡ no_clause }
+    // The clause's number in its rule, and the three numbers shown, 0 where there are fewer.
+    pub fn numbers(self) -> [u32; 4]
+        ensures { result ≡ numbers (named self) }
     {
-        Clause {
-            number: 0,
-            first: 0,
-            second: 0,
-            third: 0,
+        match self {
+            Clause::TwinPast { twin, halfedges } => [1, twin, halfedges, 0],
+            Clause::TwinItself { twin } => [2, twin, 0, 0],
+            Clause::NotReturned { twin, back } => [3, twin, back, 0],
+            Clause::VertexPast { vertex, vertices } => [1, vertex, vertices, 0],
+            Clause::EndsAlike { vertex, next } => [2, vertex, next, 0],
+            Clause::TwinEndsDiffer { twin, start, end } => [3, twin, start, end],
+            Clause::Unused { vertex } => [1, vertex, 0, 0],
+            Clause::EdgePast { edge, edges } => [1, edge, edges, 0],
+            Clause::EdgeDiffers { twin, own, other } => [2, twin, own, other],
+            Clause::EdgeShared { edge, stranger } => [3, edge, stranger, 0],
+            Clause::Apart { corner, other } => [1, corner, other, 0],
+        }
+    }
+
+    // The refusal of the clause's rule, at a place.
+    pub fn refusal(self, place: usize) -> Refusal
+        ensures { refused result ≡ broken self place }
+    {
+        match self {
+            Clause::TwinPast { .. } | Clause::TwinItself { .. } | Clause::NotReturned { .. } => {
+                Refusal::Twin(place)
+            }
+            Clause::VertexPast { .. } | Clause::EndsAlike { .. } | Clause::TwinEndsDiffer { .. } => {
+                Refusal::Vertex(place)
+            }
+            Clause::Unused { .. } => Refusal::Unused(place),
+            Clause::EdgePast { .. } | Clause::EdgeDiffers { .. } | Clause::EdgeShared { .. } => {
+                Refusal::Edge(place)
+            }
+            Clause::Apart { .. } => Refusal::Fan(place),
         }
     }
 }
 
-// The clause of what a check of the tables answered.
+// The clause of a refusal of the tables, where its rule has clauses.
+#[tactic(auto, unfolding(crate::specs::Clauses::clause_at))]
 pub fn clause_at(
     twin: &[u32],
     vert: &[u32],
     edge: &[u32],
     vertices: usize,
-    answer: Answer,
-) -> Clause
-    requires { Reached (tables twin.now vert.now edge.now) vertices (told answer) }
-    ensures { result ≡ clause_at (tables twin.now vert.now edge.now) vertices (told answer) }
+    refusal: Refusal,
+) -> Option<Clause>
+    requires { Reached (tables twin.now vert.now edge.now) vertices (refused refusal) }
+    ensures value { shown result
+        ≡ clause_at (tables twin.now vert.now edge.now) vertices (refused refusal) }
+    ensures rule { IfSome result
+        (λ k. broken k (refused refusal).place ≡ refused refusal) }
 {
-    let number = answer.number();
-    let place = answer.place();
-    if number == 3 {
-        return rules::twin_clause(twin, place);
+    match refusal {
+        Refusal::Twin(halfedge) => Some(rules::twin_clause(twin, halfedge)),
+        Refusal::Vertex(halfedge) => Some(rules::vertex_clause(twin, vert, vertices, halfedge)),
+        Refusal::Unused(vertex) => Some(Clause::Unused {
+            vertex: vertex as u32,
+        }),
+        Refusal::Edge(halfedge) => Some(rules::edge_clause(twin, edge, halfedge)),
+        Refusal::Fan(vertex) => Some(fans::fan_clause(twin, vert, vertex)),
+        _ => None,
     }
-    if number == 4 {
-        return rules::vertex_clause(twin, vert, vertices, place);
-    }
-    if number == 5 {
-        return Clause {
-            number: 1,
-            first: place as u32,
-            second: 0,
-            third: 0,
-        };
-    }
-    if number == 6 {
-        return rules::edge_clause(twin, edge, place);
-    }
-    if number == 7 {
-        return fans::fan_clause(twin, vert, place);
-    }
-    Clause::none()
 }

@@ -21,3 +21,4 @@ pub mod Splice
 pub mod Signs
 pub mod Filling
 pub mod Totals
+pub mod Position

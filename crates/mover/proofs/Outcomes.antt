@@ -25,9 +25,10 @@ use Rattle.filelaws.proofs.Prefix.{too_long, longer_alike}
 use Rattle.writing.specs.Writing.{written, wrote}
 use Rattle.moves.specs.Moves.{cage_moves, move_checks, move_verdict, move}
 use Rattle.moves.proofs.Moved.{roomy_moves}
+use Rattle.text.specs.declared.replies.Status.TheVariants.{Answered}
 use Rattle.text.specs.declared.replies.Written.{Written}
 use Rattle.io.specs.Counts.{IsPrefixLen}
-use Rattle.text.specs.Replies.{Reply, refused, Says}
+use Rattle.text.specs.Replies.{Reply, refused, status_number, Says}
 use Rattle.text.specs.Internal.Put.{Replied}
 use Rattle.mover.specs.Moving.{moving}
 
@@ -64,19 +65,19 @@ module _ (from to : Form) (f : List ℕ) where
         let same : between ≡ before = left.1 ∙ rw (roomy_verdict from f to before long, ← told, here) in
         record { status = rw (← told, here) p.status; text = rw (← told, here, ← same) p.put.bytes; ends = rw (← told, here) (omega (arith, p.put.ends)) }
 
-    done_says : (n : ℕ) → Moved (Ok n) → (r ≡ record { status = 0; length = n }) × (after ≡ between) → Says (moving from to f) before after r
+    done_says : (n : ℕ) → Moved (Ok n) → (r ≡ record { status = Answered; length = n }) × (after ≡ between) → Says (moving from to f) before after r
     unfolding moving move written said filled
     done_says n left p =
         let told = verdict (Ok n) left in
         let size : n ≡ length (file to (cage_in f)) = ap (λ s. s.values) left.0 ∙ rw (roomy_verdict from f to before long, ← told) in
         record {
-          status = rw (← told) (ap (λ w. w.status) p.0);
+          status = rw (← told) (ap (λ w. status_number w.status) p.0);
           text = rw (← told) (p.1 ∙ left.1 ∙ rw (roomy_verdict from f to before long, ← told));
           ends = rw (← told) (ap (λ w. w.length) p.0 ∙ size);
         }
 
     pub moved_says : (x : Result ℕ Refusal) → Moved x → IfErr x (λ q. Replied between 50 (refused (refusals_refused q)) after r)
-        → IfOk x (λ n. (r ≡ record { status = 0; length = n }) × (after ≡ between)) → Says (moving from to f) before after r
+        → IfOk x (λ n. (r ≡ record { status = Answered; length = n }) × (after ≡ between)) → Says (moving from to f) before after r
     moved_says (Ok n) left p q = done_says n left q
     moved_says (Err e) left p q = refused_says e left p
 

@@ -4,6 +4,7 @@
 ghost use Rattle.std.specs.Prelude.{◌≡◌, ◌≤◌, ◌<◌, length, IfOk, IfErr};
 ghost use Rattle.io.specs.Counts.{IsPrefixLen};
 ghost use Rattle.halfedges.specs.Refusals.{refused as refusals_refused};
+ghost use Rattle.text.specs.declared.replies.Status.TheVariants.{Answered};
 ghost use Rattle.text.specs.Replies.{refused, Says};
 ghost use Rattle.text.specs.Internal.Put.{Replied};
 ghost use Rattle.intake.specs.Internal.Buffer.{longest};
@@ -11,7 +12,7 @@ ghost use Rattle.mover.specs.Moving.{moving};
 
 use cagefile::fields::Form;
 use halfedges::refusal::Refusal;
-use text::replies::Written;
+use text::replies::{Status, Written};
 use text::{replies, streams};
 
 // What the longest file takes.
@@ -22,20 +23,16 @@ const LONGEST: usize = 46111;
 pub fn move_input(rt: &HostRuntime, file: &mut [u8], from: Form, to: Form)
     requires { longest < length file.old }
 {
-    let read = streams::read(rt, &mut *file);
-    if read.failed {
-        return;
+    if let Some(length) = streams::read(rt, &mut *file) {
+        hand_over(rt, &file[..length], from, to);
     }
-    let length = read.length;
-    hand_over(rt, &file[..length], from, to);
 }
 
 // Hands over the moved file, or the refusal.
 fn hand_over(rt: &HostRuntime, file: &[u8], from: Form, to: Form) {
     let mut out = [0u8; LONGEST];
     let written = reply(file, from, to, &mut out);
-    let length = written.length;
-    streams::hand_over(rt, &out[..length], written.status);
+    streams::hand_over(rt, &out[..written.length], written.status);
 }
 
 // The reply to any bytes, the moved file or the refusal's line at the front of out.
@@ -51,11 +48,11 @@ pub fn reply(file: &[u8], from: Form, to: Form, out: &mut [u8; LONGEST]) -> Writ
 fn put_reply(out: &mut [u8], moved: Result<usize, Refusal>) -> Written
     requires { 50 ≤ length out.old }
     ensures replied { IfErr moved (λ refusal. Replied out.old 50 (refused (refusals_refused refusal)) out.new result) }
-    ensures value { IfOk moved (λ length. (result ≡ record { status = 0; length = length }) × (out.new ≡ out.old)) }
+    ensures value { IfOk moved (λ length. (result ≡ record { status = Answered; length = length }) × (out.new ≡ out.old)) }
 {
     match moved {
         Ok(length) => Written {
-            status: replies::ANSWERED,
+            status: Status::Answered,
             length,
         },
         Err(refusal) => replies::put_refusal(out, refusal),

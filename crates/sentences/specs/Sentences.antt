@@ -2,7 +2,7 @@
 use Rattle.std.specs.Prelude.{ℕ, cond, List, [], ◌∷◌, ◌++◌, eqb, get_or, drop}
 use Rattle.halfedges.specs.Cage.{marker}
 use Rattle.halfedges.specs.Refusals.{Verdict}
-use Rattle.clauses.specs.declared.Clause.{Clause}
+use Rattle.clauses.specs.Clauses.{Clause}
 use Rattle.text.specs.Lines.{ascii, decimal, newline}
 
 -- what stands for a number

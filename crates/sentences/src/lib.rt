@@ -1,34 +1,24 @@
 // What is said of a cage: why it is refused, clause by clause, or its counts.
 #![tactic(auto)]
 
-ghost use Rattle.std.specs.Prelude.{◌≡◌, ◌+◌, ◌*◌, ◌≤◌, length, get_or};
-ghost use Rattle.halfedges.specs.Refusals.{told};
-ghost use Rattle.tables.specs.Check.{checked as check_checked};
+ghost use Rattle.std.specs.Prelude.{◌≡◌, ◌+◌, ◌*◌, ◌≤◌, length};
+ghost use Rattle.halfedges.specs.Refusals.{refused};
+ghost use Rattle.tables.specs.Check.{numbers as check_numbers};
+ghost use Rattle.clauses.specs.Shown.{named};
 ghost use Rattle.text.specs.Internal.Put.{Put};
 ghost use Rattle.sentences.specs.Sentences.{saying, of_three, shown as sentences_shown, twin_line, vertex_line, unused_line, edge_line, fan_line, because, accepted};
 ghost use Rattle.sentences.specs.Internal.Pieces.{piece};
 
 use clauses::Clause;
-use halfedges::answer::Answer;
+use halfedges::refusal::Refusal;
 use halfedges::table::HalfedgeTable;
 use tables::check::Checked;
 use text::lines;
 
 // What stands for a number in a text.
-const HASH: u8 = 35;
+const HASH: u8 = b'#';
 
 // ---- a text with numbers
-
-// One of some numbers, 0 where there are no more.
-fn number_at(numbers: [usize; 5], at: usize) -> usize
-    requires { length numbers ≡ 5 }
-    ensures { result ≡ get_or numbers at 0 }
-{
-    if at < 5 {
-        return numbers[at];
-    }
-    0
-}
 
 // A byte of a text as it stands, or the number that it stands for.
 fn put_piece(out: &mut [u8], at: usize, byte: u8, number: usize) -> usize
@@ -49,14 +39,12 @@ fn put_saying(out: &mut [u8], text: &[u8], numbers: [usize; 5]) -> usize
 {
     let mut at = 0;
     let mut used = 0;
-    let mut i = 0;
-    while i < text.len() {
-        let byte = text[i];
-        at = put_piece(&mut *out, at, byte, number_at(numbers, used));
-        if byte == HASH {
+    for byte in text {
+        let number = numbers.get(used).copied().unwrap_or(0);
+        at = put_piece(&mut *out, at, *byte, number);
+        if *byte == HASH {
             used += 1;
         }
-        i += 1;
     }
     lines::put_byte(&mut *out, at, lines::NEWLINE)
 }
@@ -65,151 +53,142 @@ fn put_saying(out: &mut [u8], text: &[u8], numbers: [usize; 5]) -> usize
 
 // The place twice, and the numbers shown.
 fn shown(place: usize, clause: Clause) -> [usize; 5]
-    ensures { result ≡ sentences_shown place clause }
+    ensures { result ≡ sentences_shown place (named clause) }
 {
+    let [_, first, second, third] = clause.numbers();
     [
         place,
         place,
-        clause.first as usize,
-        clause.second as usize,
-        clause.third as usize,
+        first as usize,
+        second as usize,
+        third as usize,
     ]
 }
 
-// One of three texts, by the number of a clause.
+// One of a rule's three texts, by the clause's number in its own rule: a text is promised for each refusal with each clause.
 fn put_clause(
     out: &mut [u8],
-    clause: u32,
+    place: usize,
+    clause: Clause,
     one: &[u8],
     two: &[u8],
     three: &[u8],
-    numbers: [usize; 5],
 ) -> usize
-    requires { (2048 ≤ length out.old) × (length one.now ≤ 100) × (length two.now ≤ 100) × (length three.now ≤ 100)
-        × (length numbers ≡ 5) }
-    ensures { Put out.old 0 2048 (of_three clause one.now two.now three.now numbers)
-        out.new result }
+    requires { (2048 ≤ length out.old) × (length one.now ≤ 100) × (length two.now ≤ 100) × (length three.now ≤ 100) }
+    ensures { let k = named clause in Put out.old 0 2048 (of_three k.number one.now two.now three.now
+        (sentences_shown place k)) out.new result }
 {
-    if clause == 1 {
-        return put_saying(&mut *out, one, numbers);
-    }
-    if clause == 2 {
-        return put_saying(&mut *out, two, numbers);
-    }
-    put_saying(&mut *out, three, numbers)
+    let [number, ..] = clause.numbers();
+    let text = match number {
+        1 => one,
+        2 => two,
+        _ => three,
+    };
+    put_saying(&mut *out, text, shown(place, clause))
 }
 
 // Rule 3.
+#[tactic(auto, unfolding(crate::specs::Sentences::twin_line))]
 fn put_twin(out: &mut [u8], place: usize, clause: Clause) -> usize
     requires { 2048 ≤ length out.old }
-    ensures { Put out.old 0 2048 (twin_line place clause) out.new result }
+    ensures { Put out.old 0 2048 (twin_line place (named clause)) out.new result }
 {
-    let number = clause.number;
-    let second = clause.second;
-    let numbers = shown(place, clause);
+    let [_, _, second, _] = clause.numbers();
     if second == HalfedgeTable::NO_TWIN {
         return put_saying(
             &mut *out,
             b"refused 3 #: halfedge # has twin #, which has no twin",
-            numbers,
+            shown(place, clause),
         );
     }
     put_clause(
         &mut *out,
-        number,
+        place,
+        clause,
         b"refused 3 #: halfedge # has twin #, past the # halfedges",
         b"refused 3 #: halfedge # has twin #, which is itself",
         b"refused 3 #: halfedge # has twin #, whose twin is #",
-        numbers,
     )
 }
 
 // Rule 4.
+#[tactic(auto, unfolding(crate::specs::Sentences::vertex_line))]
 fn put_vertex(out: &mut [u8], place: usize, clause: Clause) -> usize
     requires { 2048 ≤ length out.old }
-    ensures { Put out.old 0 2048 (vertex_line place clause) out.new result }
+    ensures { Put out.old 0 2048 (vertex_line place (named clause)) out.new result }
 {
-    let number = clause.number;
-    let numbers = shown(place, clause);
     put_clause(
         &mut *out,
-        number,
+        place,
+        clause,
         b"refused 4 #: corner # names vertex #, past the # points",
         b"refused 4 #: corner # names vertex #, and so does the next corner, #",
         b"refused 4 #: corner # has twin #, which names vertex # instead of #",
-        numbers,
     )
 }
 
 // Rule 5.
+#[tactic(auto, using(text::proofs::Texts::put_within), unfolding(crate::specs::Sentences::unused_line))]
 fn put_unused(out: &mut [u8], place: usize, clause: Clause) -> usize
     requires { 2048 ≤ length out.old }
-    ensures { Put out.old 0 2048 (unused_line place clause) out.new result }
+    ensures { Put out.old 0 2048 (unused_line place (named clause)) out.new result }
 {
-    let numbers = shown(place, clause);
     put_saying(
         &mut *out,
         b"refused 5 #: vertex # is named by no corner",
-        numbers,
+        shown(place, clause),
     )
 }
 
 // Rule 6.
+#[tactic(auto, unfolding(crate::specs::Sentences::edge_line))]
 fn put_edge(out: &mut [u8], place: usize, clause: Clause) -> usize
     requires { 2048 ≤ length out.old }
-    ensures { Put out.old 0 2048 (edge_line place clause) out.new result }
+    ensures { Put out.old 0 2048 (edge_line place (named clause)) out.new result }
 {
-    let number = clause.number;
-    let numbers = shown(place, clause);
     put_clause(
         &mut *out,
-        number,
+        place,
+        clause,
         b"refused 6 #: halfedge # has edge #, past the # edges",
         b"refused 6 #: halfedge # has twin #, and edge # where its twin has edge #",
         b"refused 6 #: halfedge # has edge #, and so has halfedge #, which is not its twin",
-        numbers,
     )
 }
 
 // Rule 7.
+#[tactic(auto, using(text::proofs::Texts::put_within), unfolding(crate::specs::Sentences::fan_line))]
 fn put_fan(out: &mut [u8], place: usize, clause: Clause) -> usize
     requires { 2048 ≤ length out.old }
-    ensures { Put out.old 0 2048 (fan_line place clause) out.new result }
+    ensures { Put out.old 0 2048 (fan_line place (named clause)) out.new result }
 {
-    let numbers = shown(place, clause);
     put_saying(
         &mut *out,
         b"refused 7 #: vertex # has corners # and #, which are not joined",
-        numbers,
+        shown(place, clause),
     )
 }
 
-// A refusal from 3 to 7, by its number, with its clause.
-pub fn put_because(out: &mut [u8], answer: Answer, clause: Clause) -> usize
+// A refusal from 3 to 7, with its clause.
+#[tactic(auto, unfolding(crate::specs::Sentences::because))]
+pub fn put_because(out: &mut [u8], refusal: Refusal, clause: Clause) -> usize
     requires { 2048 ≤ length out.old }
-    ensures { Put out.old 0 2048 (because (told answer) clause) out.new result }
+    ensures { Put out.old 0 2048 (because (refused refusal) (named clause)) out.new result }
 {
-    let number = answer.number();
-    let place = answer.place();
-    if number == 3 {
-        return put_twin(&mut *out, place, clause);
+    match refusal {
+        Refusal::Twin(halfedge) => put_twin(&mut *out, halfedge, clause),
+        Refusal::Vertex(halfedge) => put_vertex(&mut *out, halfedge, clause),
+        Refusal::Unused(vertex) => put_unused(&mut *out, vertex, clause),
+        Refusal::Edge(halfedge) => put_edge(&mut *out, halfedge, clause),
+        _ => put_fan(&mut *out, refusal.place(), clause),
     }
-    if number == 4 {
-        return put_vertex(&mut *out, place, clause);
-    }
-    if number == 5 {
-        return put_unused(&mut *out, place, clause);
-    }
-    if number == 6 {
-        return put_edge(&mut *out, place, clause);
-    }
-    put_fan(&mut *out, place, clause)
 }
 
 // An accepted cage, with what the check returned of it.
+#[tactic(auto, using(text::proofs::Texts::put_within), unfolding(crate::specs::Sentences::accepted))]
 pub fn put_accepted(out: &mut [u8], cage: Checked) -> usize
     requires { 2048 ≤ length out.old }
-    ensures { Put out.old 0 2048 (accepted (check_checked cage).values) out.new result }
+    ensures { Put out.old 0 2048 (accepted (check_numbers cage)) out.new result }
 {
     put_saying(
         &mut *out,

@@ -1,21 +1,24 @@
 -- Each clause has its text.
+use Prim.Native.Nat.{ℕ}
+use mathlib.Core.Path.{◌≡◌, sym, ap}
+use mathlib.Core.List.{List}
 use native.Mathlib.Omega.{arith}
+use lib.ListN.{get_or}
 use borrow.Author.Tests.{eq-eqb, ne_eqb}
+use Rattle.clauses.specs.Shown.{named}
 use Rattle.text.proofs.Texts.{put_within}
 use Rattle.sentences.specs.Sentences.{of_three}
 use Rattle.sentences.proofs.put_clause.Goals as goal
-
-pub returns-then-clause-eq1 : goal.returns-then-clause-eq1
-unfolding of_three
-returns-then-clause-eq1 c =
-    rw (eq-eqb _ 1 c.if-clause-eq1.true) (put_within (omega arith) c.put_saying.ensures)
-
-pub returns-then-clause-eq2 : goal.returns-then-clause-eq2
-unfolding of_three
-returns-then-clause-eq2 c =
-    rw (ne_eqb _ 1 c.if-clause-eq1.false, eq-eqb _ 2 c.if-clause-eq2.true) (put_within (omega arith) c.put_saying-then-clause-eq2.ensures)
+use Rattle.sentences.proofs.put_clause.Goals.{in-1, in-2, in_default}
 
 pub returns : goal.returns
 unfolding of_three
 returns c =
-    rw (ne_eqb _ 1 c.if-clause-eq1.false, ne_eqb _ 2 c.if-clause-eq2.false) (put_within (omega arith) c.put_saying-2.ensures)
+    let k = named c.args.clause in
+    let n : k.number ≡ get_or c.numbers.result 0 0 = sym (ap (λ (ns : List ℕ). get_or ns 0 0) c.numbers.ensures) in
+    let p = rw c.shown.ensures at c.put_saying.ensures in
+    elim c.match-number.branch [
+      | in-1 w ↦ rw (eq-eqb k.number 1 (omega arith)) (put_within (omega arith) (rw w.text-is at p))
+      | in-2 w ↦ rw (ne_eqb k.number 1 (omega arith), eq-eqb k.number 2 (omega arith)) (put_within (omega arith) (rw w.text-is at p))
+      | in_default w ↦ rw (ne_eqb k.number 1 (omega arith), ne_eqb k.number 2 (omega arith)) (put_within (omega arith) (rw w.text-is at p))
+    ]

@@ -1,45 +1,29 @@
 -- `put_saying` keeps what is filled so far, and ends the line.
 use borrow.Author.Rules.{rules}
 use Prim.Native.Nat.{◌+◌}
-use mathlib.Core.Path.{◌≡◌, refl}
+use mathlib.Core.Path.{◌≡◌}
 use mathlib.Core.Bool.{cond}
 use native.Mathlib.Omega.{arith}
 use lib.Dec.{eqb}
 use lib.ListN.{get_or}
 use borrow.Author.Tests.{eq-eqb, ne_eqb}
 use Rattle.sentences.specs.Sentences.{hash, saying}
-use Rattle.sentences.proofs.Filling.{filled_none, filled_more, filled_all}
+use Rattle.sentences.proofs.Filling.{filled_more, filled_all}
 use Rattle.sentences.proofs.put_saying.Goals as goal
 use Rattle.sentences.proofs.put_saying.Goals.{then-byte-eq-HASH, else-byte-eq-HASH}
 
-pub loop-i-init : goal.loop-i-init
-loop-i-init c = (omega arith, refl, filled_none _ _ _)
-
-pub put_piece-at-requires : goal.put_piece-at-requires
-put_piece-at-requires c =
-    let f = c.loop-i.invariant.2 in
-    omega (arith, f.put.ends, f.put.short)
-
-pub overflow_add-used : goal.overflow_add-used
-overflow_add-used c =
-    omega (arith, c.loop-i.invariant.2.few)
-
-pub loop-i-preserved : goal.loop-i-preserved
-loop-i-preserved c =
+pub loop-byte-preserved : goal.loop-byte-preserved
+loop-byte-preserved c =
     let s = c.args in
-    let used : c.if-byte-eq-HASH.used ≡ cond (eqb (get_or s.text.now c.loop-i.i 0) hash) (c.loop-i.used + 1) c.loop-i.used = elim c.if-byte-eq-HASH.branch [
+    let used : c.if-byte-eq-HASH.used ≡ cond (eqb (get_or s.text.now c.loop-byte.byte-index 0) hash) (c.loop-byte.used + 1) c.loop-byte.used = elim c.if-byte-eq-HASH.branch [
       | then-byte-eq-HASH w ↦ rw (eq-eqb _ hash w.if-byte-eq-HASH.true) w.used-is
       | else-byte-eq-HASH w ↦ rw (ne_eqb _ hash w.if-byte-eq-HASH.false) w.used-is
     ] in
-    let put = rw c.number_at.ensures at c.put_piece-at.ensures in
-    (omega arith, search rules, filled_more c.if-byte-eq-HASH.used c.loop-i-test.true c.loop-i.invariant.2 put used)
-
-pub put_byte-requires : goal.put_byte-requires
-put_byte-requires c =
-    let f = c.loop-i.invariant.2 in
-    omega (arith, f.put.ends, f.put.short)
+    let number : c.unwrap_or-number.result ≡ get_or s.numbers c.loop-byte.used 0 = search rules in
+    let put = rw number at c.put_piece-at.ensures in
+    filled_more c.if-byte-eq-HASH.used c.loop-byte-test.true c.loop-byte.invariant put used
 
 pub returns : goal.returns
 unfolding saying
 returns c =
-    filled_all (omega (arith, c.loop-i.invariant.0, c.loop-i-test.false)) c.loop-i.invariant.2 c.put_byte.ensures
+    filled_all (omega arith) c.loop-byte.invariant c.put_byte.ensures

@@ -27,6 +27,6 @@ overflow_cast-result-2 c =
     let s = start c in
     omega (arith, rw (corner c).lowest_corner-corner.ensures at c.lowest_apart-other.ensures, s.requires.0.few, s.requires.1, apart_below _ _ _ s.requires.2 s.requires.0 s.requires.1)
 
-pub returns : goal.returns
+pub returns-clause-value : goal.returns-clause-value
 unfolding fan_clause
-returns c = rw (c.lowest_apart-other.ensures, (corner c).lowest_corner-corner.ensures)
+returns-clause-value c = rw (c.lowest_apart-other.ensures, (corner c).lowest_corner-corner.ensures)

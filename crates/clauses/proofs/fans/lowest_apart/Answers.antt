@@ -1,25 +1,32 @@
 -- `lowest_apart` goes up to the first corner without a mark.
-use borrow.Author.Rules.{rules}
 use mathlib.Core.Path.{◌≡◌, sym, ◌∙◌}
+use mathlib.Core.Bool.{false}
 use native.Mathlib.Omega.{arith}
 use lib.ListN.{length}
-use borrow.Author.Count.{below_none, below_more}
+use borrow.Author.Count.{below_more}
+use borrow.Author.Tests.{eq-eqb, ne_eqb}
 use Rattle.laws.proofs.Lowest.{lowest_is, lowest_none}
 use Rattle.clauses.specs.Clauses.{apart}
+use Rattle.clauses.proofs.Apart.{apart_other, apart-mark}
 use Rattle.clauses.proofs.fans.lowest_apart.Goals as goal
+use Rattle.clauses.proofs.fans.lowest_apart.Goals.{else-wide-vertex-via-then-wide-vertex+else-marks-halfedge-eq0, else-wide-vertex-via-else-wide-vertex}
 
-pub loop-halfedge-init : goal.loop-halfedge-init
-loop-halfedge-init c = (search rules, below_none (λ k. apart _ _ _ _ k ≡ _))
-
-pub returns-then-is_apart : goal.returns-then-is_apart
-returns-then-is_apart c =
+pub returns-then-marks-halfedge-eq0 : goal.returns-then-marks-halfedge-eq0
+returns-then-marks-halfedge-eq0 c =
     let i = c.loop-halfedge in
-    sym (lowest_is _ (apart _ _ _ _) i.halfedge c.loop-halfedge-test.true (sym c.is_apart.ensures ∙ c.if-is_apart.true) i.invariant.1)
+    let here = apart-mark c.args.twin.now c.args.vert.now c.args.vertex c.args.corner i.halfedge (sym c.wide.ensures ∙ c.if-wide-vertex.true) (c.requires.0.each _ (omega (arith, c.requires.1))) in
+    sym (lowest_is _ (apart _ _ _ _) i.halfedge c.loop-halfedge-test.true (sym here ∙ eq-eqb _ _ c.if-marks-halfedge-eq0.true) i.invariant)
 
 pub loop-halfedge-preserved : goal.loop-halfedge-preserved
 loop-halfedge-preserved c =
     let i = c.loop-halfedge in
-    (search rules, below_more (λ k. apart _ _ _ _ k ≡ _) _ i.invariant.1 (sym c.is_apart.ensures ∙ c.if-is_apart.false))
+    let p = c.args in
+    let not_here : apart p.twin.now p.vert.now p.vertex p.corner i.halfedge ≡ false =
+    elim c.else-wide-vertex.branch [
+      | else-wide-vertex-via-then-wide-vertex+else-marks-halfedge-eq0 w ↦ sym (apart-mark _ _ _ _ _ (sym c.wide.ensures ∙ w.if-wide-vertex.true) (c.requires.0.each _ (omega (arith, c.requires.1)))) ∙ ne_eqb _ _ w.if-marks-halfedge-eq0.false
+      | else-wide-vertex-via-else-wide-vertex w ↦ sym (apart_other _ _ _ _ _ (λ e. w.if-wide-vertex.false (c.wide.ensures ∙ e)))
+    ] in
+    below_more (λ k. apart _ _ _ _ k ≡ _) _ i.invariant not_here
 
 pub returns : goal.returns
-returns c = omega (arith, lowest_none (length c.args.vert.now) (apart c.args.twin.now c.args.vert.now c.args.vertex c.args.corner) (λ k l. c.loop-halfedge.invariant.1 k (omega arith)))
+returns c = omega (arith, lowest_none (length c.args.vert.now) (apart c.args.twin.now c.args.vert.now c.args.vertex c.args.corner) (λ k l. c.loop-halfedge.invariant k (omega arith)))

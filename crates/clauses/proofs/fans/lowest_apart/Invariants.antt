@@ -1,11 +1,6 @@
-use Prim.Native.Nat.{◌-◌, ◌≤◌}
-use lib.ListN.{length}
 use Rattle.halfedges.proofs.Checks.{Clean}
 use Rattle.clauses.specs.Clauses.{apart}
 use Rattle.clauses.proofs.fans.lowest_apart.Given as goal
 
 abbrev pub invariant-loop-halfedge : goal.invariant-loop-halfedge
-invariant-loop-halfedge l = (l.halfedge ≤ length l.vert) × Clean l.halfedge (apart l.twin l.vert l.vertex l.corner)
-
-abbrev pub decreases-loop-halfedge : goal.decreases-loop-halfedge
-decreases-loop-halfedge l = length l.vert - l.halfedge
+invariant-loop-halfedge l = Clean l.halfedge (apart l.twin l.vert l.vertex l.corner)

@@ -1,26 +1,13 @@
--- `lowest_corner` goes up to the first corner.
-use borrow.Author.Rules.{rules}
-use mathlib.Core.Path.{◌≡◌, sym, ◌∙◌}
-use native.Mathlib.Omega.{arith}
-use lib.ListN.{length}
-use borrow.Author.Count.{below_none, below_more}
-use borrow.Author.Tests.{eq-eqb, ne_eqb}
-use Rattle.laws.proofs.Lowest.{lowest_is, lowest_none}
-use Rattle.tables.specs.Tables.{leaves}
+-- The lowest corner is where the library finds the vertex first.
+use Rattle.std.proofs.Common.{rules, tests, eqb}
+use Rattle.std.proofs.lemmas.Iterator.{YieldsList-from_slice}
+use Rattle.std.proofs.lemmas.Iterator.Search.{position_from_yields_List}
+use Rattle.laws.proofs.Position.{found_lowest}
 use Rattle.clauses.proofs.fans.lowest_corner.Goals as goal
 
-pub loop-halfedge-init : goal.loop-halfedge-init
-loop-halfedge-init c = (search rules, below_none (λ k. leaves c.args.vert.now c.args.vertex k ≡ _))
-
-pub returns-then-wide-vertex : goal.returns-then-wide-vertex
-returns-then-wide-vertex c =
-    let i = c.loop-halfedge in
-    sym (lowest_is _ (leaves c.args.vert.now c.args.vertex) i.halfedge c.loop-halfedge-test.true (eq-eqb _ _ (sym c.wide.ensures ∙ c.if-wide-vertex.true)) i.invariant.1)
-
-pub loop-halfedge-preserved : goal.loop-halfedge-preserved
-loop-halfedge-preserved c =
-    let i = c.loop-halfedge in
-    (search rules, below_more (λ k. leaves c.args.vert.now c.args.vertex k ≡ _) _ i.invariant.1 (ne_eqb _ _ (λ e. c.if-wide-vertex.false (c.wide.ensures ∙ e))))
-
 pub returns : goal.returns
-returns c = omega (arith, lowest_none (length c.args.vert.now) (leaves c.args.vert.now c.args.vertex) (λ k l. c.loop-halfedge.invariant.1 k (omega arith)))
+returns c =
+    let vert = c.args.vert.now in
+    let vertex = c.args.vertex in
+    let found = position_from_yields_List (λ corner. eqb corner vertex) _ _ c.position.result c.position.ensures.ran (YieldsList-from_slice vert cc) (λ x b q k. search (rules, tests)) in
+    found_lowest (λ corner. eqb corner vertex) 0 vert _ _ found c.unwrap_or.ensures

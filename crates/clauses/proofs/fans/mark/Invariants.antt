@@ -1,10 +1,7 @@
-use Prim.Native.Nat.{◌+◌, ◌-◌, ◌≤◌}
+use Prim.Native.Nat.{◌+◌, ◌-◌}
 use lib.ListN.{length}
 use Rattle.clauses.proofs.Marking.{Going}
 use Rattle.clauses.proofs.fans.mark.Given as goal
 
 abbrev pub invariant-loop-turn : goal.invariant-loop-turn
-invariant-loop-turn l = (l.turn ≤ length l.twin + 1) × Going l.twin l.along l.corner l.initial.marks l.marks l.at l.turn (length l.twin + 1 - l.turn)
-
-abbrev pub decreases-loop-turn : goal.decreases-loop-turn
-decreases-loop-turn l = length l.twin + 1 - l.turn
+invariant-loop-turn l = Going l.twin l.along l.corner l.initial.marks l.marks l.at l._turn (length l.twin + 1 - l._turn)

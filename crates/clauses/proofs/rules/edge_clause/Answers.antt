@@ -7,7 +7,7 @@ use Rattle.halfedges.specs.Cage.{cell, E}
 use Rattle.tables.proofs.EdgeCount.{edges_at_most}
 use Rattle.clauses.proofs.Broken.{edge_past_lem, edge_differs_lem, Alike, alone, paired, stranger_below, edge_shared_lem}
 use Rattle.clauses.proofs.rules.edge_clause.Goals as goal
-use Rattle.clauses.proofs.rules.edge_clause.Goals.{else-t, then-t+else-twins-number, After-wide-other, Else-edges-wide, Joined-t, Start}
+use Rattle.clauses.proofs.rules.edge_clause.Goals.{else-t, then-t+else-twins-own, After-wide-other, Else-edges-wide, Joined-t, Start}
 
 -- where the edge is in range
 module _ (i : Else-edges-wide) where
@@ -26,8 +26,8 @@ pub overflow_cast-result : goal.overflow_cast-result
 overflow_cast-result c =
     omega (arith, c.count_edges-edges.ensures, c.requires.0.few, edges_at_most c.args.twin.now)
 
-pub returns-then-edges-wide : goal.returns-then-edges-wide
-returns-then-edges-wide c =
+pub returns-then-edges-wide-clause-value : goal.returns-then-edges-wide-clause-value
+returns-then-edges-wide-clause-value c =
     rw c.count_edges-edges.ensures (edge_past_lem _ _ _ (rw (c.wide.ensures, c.count_edges-edges.ensures) at c.if-edges-wide.true))
 
 pub offset_bounds-edge-other : goal.offset_bounds-edge-other
@@ -36,11 +36,11 @@ offset_bounds-edge-other c = omega (arith, twin_inside c)
 pub bounds-edge-other : goal.bounds-edge-other
 bounds-edge-other c = twin_inside (goal.at.bounds-edge-other c).After-wide-other
 
-pub returns-then-twins-number : goal.returns-then-twins-number
-returns-then-twins-number c =
-    let s = start (goal.at.returns-then-twins-number c).Else-edges-wide in
+pub returns-then-twins-own-clause-value : goal.returns-then-twins-own-clause-value
+returns-then-twins-own-clause-value c =
+    let s = start (goal.at.returns-then-twins-own-clause-value c).Else-edges-wide in
     rw c.wide-other.ensures
-    (edge_differs_lem _ _ _ (low (goal.at.returns-then-twins-number c).Else-edges-wide) c.if-t.true (λ e. c.if-twins-number.true (ap (cell s.args.edge.now) c.wide-other.ensures ∙ e)))
+    (edge_differs_lem _ _ _ (low (goal.at.returns-then-twins-own-clause-value c).Else-edges-wide) c.if-t.true (λ e. c.if-twins-own.true (ap (cell s.args.edge.now) c.wide-other.ensures ∙ e)))
 
 -- where the twin does not differ
 module _ (j : Joined-t) where
@@ -50,7 +50,7 @@ module _ (j : Joined-t) where
   alike : Alike begun.args.twin.now begun.args.edge.now begun.args.halfedge
   alike =
       elim j.if-t.branch [
-        | then-t+else-twins-number w ↦ paired w.if-t.true (sym (ap (cell begun.args.edge.now) w.wide-other.ensures) ∙ w.if-twins-number.false)
+        | then-t+else-twins-own w ↦ paired w.if-t.true (sym (ap (cell begun.args.edge.now) w.wide-other.ensures) ∙ w.if-twins-own.false)
         | else-t w ↦ alone w.if-t.false
       ]
 
@@ -59,6 +59,6 @@ overflow_cast-result-2 c =
     let s = begun (goal.at.overflow_cast-result-2 c).Joined-t in
     omega (arith, c.lowest_stranger-stranger.ensures, s.requires.0.few, s.requires.0.long, stranger_below _ _ _ (low (goal.at.overflow_cast-result-2 c).Else-edges-wide) s.requires.1.broken (alike (goal.at.overflow_cast-result-2 c).Joined-t))
 
-pub returns : goal.returns
-returns c =
-    rw c.lowest_stranger-stranger.ensures (edge_shared_lem _ _ _ (low (goal.at.returns c).Else-edges-wide) (begun (goal.at.returns c).Joined-t).requires.1.broken (alike (goal.at.returns c).Joined-t))
+pub returns-clause-value : goal.returns-clause-value
+returns-clause-value c =
+    rw c.lowest_stranger-stranger.ensures (edge_shared_lem _ _ _ (low (goal.at.returns-clause-value c).Else-edges-wide) (begun (goal.at.returns-clause-value c).Joined-t).requires.1.broken (alike (goal.at.returns-clause-value c).Joined-t))

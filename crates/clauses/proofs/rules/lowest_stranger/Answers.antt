@@ -1,25 +1,14 @@
 -- `lowest_stranger` goes up to the first stranger.
-use borrow.Author.Rules.{rules}
-use mathlib.Core.Path.{◌≡◌, sym, ◌∙◌}
+use mathlib.Core.Path.{sym, ◌∙◌}
 use native.Mathlib.Omega.{arith}
-use lib.ListN.{length}
-use borrow.Author.Count.{below_none, below_more}
 use Rattle.laws.proofs.Lowest.{lowest_is, lowest_none}
 use Rattle.tables.specs.Rules.{stranger}
 use Rattle.clauses.proofs.rules.lowest_stranger.Goals as goal
 
-pub loop-place-init : goal.loop-place-init
-loop-place-init c = (search rules, below_none (λ k. stranger _ _ _ k ≡ _))
-
 pub returns-then-is_stranger : goal.returns-then-is_stranger
 returns-then-is_stranger c =
     let i = c.loop-place in
-    sym (lowest_is _ (stranger _ _ _) i.place c.loop-place-test.true (sym c.is_stranger.ensures ∙ c.if-is_stranger.true) i.invariant.1)
-
-pub loop-place-preserved : goal.loop-place-preserved
-loop-place-preserved c =
-    let i = c.loop-place in
-    (search rules, below_more (λ k. stranger _ _ _ k ≡ _) _ i.invariant.1 (sym c.is_stranger.ensures ∙ c.if-is_stranger.false))
+    sym (lowest_is _ (stranger _ _ _) i.place (omega arith) (sym c.is_stranger.ensures ∙ c.if-is_stranger.true) i.invariant)
 
 pub returns : goal.returns
-returns c = omega (arith, lowest_none (length c.args.edge.now) (stranger c.args.twin.now c.args.edge.now c.args.halfedge) (λ k l. c.loop-place.invariant.1 k (omega arith)))
+returns c = sym (lowest_none _ _ (λ k l. c.loop-place.invariant k (omega arith)))

@@ -18,13 +18,13 @@ module _ (i : Else-twin-other) where
   inside : cell start.args.twin.now start.args.halfedge < length start.args.twin.now
   inside = rw same at i.if-twin-other.false
 
-pub returns-then-twin-other : goal.returns-then-twin-other
-returns-then-twin-other c =
+pub returns-then-twin-other-clause-value : goal.returns-then-twin-other-clause-value
+returns-then-twin-other-clause-value c =
     twin_past_lem _ _ c.requires.1.broken (rw c.wide-other.ensures at c.if-twin-other.true)
 
-pub returns-then-other-halfedge : goal.returns-then-other-halfedge
-returns-then-other-halfedge c = twin_itself_lem _ _ (start (goal.at.returns-then-other-halfedge c).Else-twin-other).requires.1.broken (inside (goal.at.returns-then-other-halfedge c).Else-twin-other) (sym (same (goal.at.returns-then-other-halfedge c).Else-twin-other) ∙ c.if-other-halfedge.true)
+pub returns-then-other-halfedge-clause-value : goal.returns-then-other-halfedge-clause-value
+returns-then-other-halfedge-clause-value c = twin_itself_lem _ _ (start (goal.at.returns-then-other-halfedge-clause-value c).Else-twin-other).requires.1.broken (inside (goal.at.returns-then-other-halfedge-clause-value c).Else-twin-other) (sym (same (goal.at.returns-then-other-halfedge-clause-value c).Else-twin-other) ∙ c.if-other-halfedge.true)
 
-pub returns : goal.returns
-returns c =
-    rw (same (goal.at.returns c).Else-twin-other) (twin_lost _ _ (start (goal.at.returns c).Else-twin-other).requires.1.broken (inside (goal.at.returns c).Else-twin-other) (λ e. c.if-other-halfedge.false (same (goal.at.returns c).Else-twin-other ∙ e)))
+pub returns-clause-value : goal.returns-clause-value
+returns-clause-value c =
+    rw (same (goal.at.returns-clause-value c).Else-twin-other) (twin_lost _ _ (start (goal.at.returns-clause-value c).Else-twin-other).requires.1.broken (inside (goal.at.returns-clause-value c).Else-twin-other) (λ e. c.if-other-halfedge.false (same (goal.at.returns-clause-value c).Else-twin-other ∙ e)))

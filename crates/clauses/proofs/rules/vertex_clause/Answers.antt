@@ -41,8 +41,8 @@ twin_inside c =
     let s = begun (after_next (goal.at.After-wide-other c).Else-vertex-end) in
     omega (arith, c.wide-other.ensures, s.requires.for_vertices.0.long, s.requires.for_vertices.0.paired.below _ s.requires.broken_at.below (end_has_twin _ _ _ _ (low (goal.at.After-next-next (after_next (goal.at.After-wide-other c).Else-vertex-end)).Else-vertices-wide) s.requires.broken_at.broken (apart (goal.at.After-wide-other c).Else-vertex-end)))
 
-pub returns-then-vertices-wide : goal.returns-then-vertices-wide
-returns-then-vertices-wide c = vertex_past_lem _ _ _ _ (rw c.wide.ensures at c.if-vertices-wide.true)
+pub returns-then-vertices-wide-clause-value : goal.returns-then-vertices-wide-clause-value
+returns-then-vertices-wide-clause-value c = vertex_past_lem _ _ _ _ (rw c.wide.ensures at c.if-vertices-wide.true)
 
 pub offset_bounds-vert-next : goal.offset_bounds-vert-next
 offset_bounds-vert-next c = omega (arith, next-inside c)
@@ -53,8 +53,8 @@ bounds-vert-next c = next-inside (goal.at.bounds-vert-next c).After-next-next
 pub overflow_cast-result-then-vertex-end : goal.overflow_cast-result-then-vertex-end
 overflow_cast-result-then-vertex-end c = omega (arith, next-inside (goal.at.overflow_cast-result-then-vertex-end c).After-next-next, (begun (goal.at.overflow_cast-result-then-vertex-end c).After-next-next).requires.for_vertices.0.long, (begun (goal.at.overflow_cast-result-then-vertex-end c).After-next-next).requires.for_vertices.1)
 
-pub returns-then-vertex-end : goal.returns-then-vertex-end
-returns-then-vertex-end c = rw c.next-next.ensures (vertex_alike _ _ _ _ (low (goal.at.returns-then-vertex-end c).Else-vertices-wide) (c.if-vertex-end.true ∙ end (goal.at.returns-then-vertex-end c).After-next-next))
+pub returns-then-vertex-end-clause-value : goal.returns-then-vertex-end-clause-value
+returns-then-vertex-end-clause-value c = rw c.next-next.ensures (vertex_alike _ _ _ _ (low (goal.at.returns-then-vertex-end-clause-value c).Else-vertices-wide) (c.if-vertex-end.true ∙ end (goal.at.returns-then-vertex-end-clause-value c).After-next-next))
 
 pub offset_bounds-vert-other : goal.offset_bounds-vert-other
 offset_bounds-vert-other c = omega (arith, twin_inside c)
@@ -62,7 +62,7 @@ offset_bounds-vert-other c = omega (arith, twin_inside c)
 pub bounds-vert-other : goal.bounds-vert-other
 bounds-vert-other c = twin_inside (goal.at.bounds-vert-other c).After-wide-other
 
-pub returns : goal.returns
-returns c =
-    let n = after_next (goal.at.returns c).Else-vertex-end in
-    rw (c.wide-other.ensures, n.next-next.ensures) (vertex_differ _ _ _ _ (low (goal.at.After-next-next n).Else-vertices-wide) (begun n).requires.broken_at.broken (apart (goal.at.returns c).Else-vertex-end))
+pub returns-clause-value : goal.returns-clause-value
+returns-clause-value c =
+    let n = after_next (goal.at.returns-clause-value c).Else-vertex-end in
+    rw (c.wide-other.ensures, n.next-next.ensures) (vertex_differ _ _ _ _ (low (goal.at.After-next-next n).Else-vertices-wide) (begun n).requires.broken_at.broken (apart (goal.at.returns-clause-value c).Else-vertex-end))
