@@ -6,19 +6,20 @@ ghost use Rattle.cagefile.specs.declared.fields.Form.TheVariants.{One, Two};
 ghost use Rattle.halfedges.specs.Cage.{E};
 ghost use Rattle.halfedges.specs.Refusals.{told, first};
 ghost use Rattle.tables.specs.Tables.{tables};
-ghost use Rattle.cagefile.specs.Fields.{Cage, file as fields_file};
+ghost use Rattle.cagefile.specs.Fields.{file as fields_file};
 ghost use Rattle.filechecks.specs.FileChecks.{file_checks};
 ghost use Rattle.reading.specs.Internal.Fronts.{Ample, Fronts};
-ghost use Rattle.writing.specs.Writing.{wrote, written};
+ghost use Rattle.writing.specs.Writing.{weighted, wrote, written};
 ghost use Rattle.moves.specs.Moves.{numbered, cage_moves, move_room, move};
 
+use cage::Cage;
 use cagefile::fields::Form;
 use halfedges::refusal::Refusal;
 use halfedges::table::HalfedgeTable;
 use points::weights::Weight;
 use reading::Reading;
 use seams::sharp;
-use tables::rules;
+use tables::{Tables, rules};
 
 // The move of a file of form 1 to form 2, with zeros for creases and the short weight.
 pub fn to_form_2(file: &[u8], lent: &mut [u8]) -> Result<usize, Refusal>
@@ -59,16 +60,17 @@ pub fn move_file(file: &[u8], from: Form, to: Form, lent: &mut [u8]) -> Result<u
     let coordinates = 3 * read.vertices;
     // of form 1 the creases are still zeros, of which the cage has one for each edge
     let edges = rules::count_edges(&twin[..halfedges]);
-    write_form(
-        to,
-        &twin[..halfedges],
-        &vert[..halfedges],
-        &edge[..halfedges],
-        &points[..coordinates],
-        &creases[..edges],
-        read.weight,
-        lent,
-    )
+    let tables = Tables {
+        twin: &twin[..halfedges],
+        vert: &vert[..halfedges],
+        edge: &edge[..halfedges],
+    };
+    let cage = Cage {
+        tables,
+        points: &points[..coordinates],
+        creases: &creases[..edges],
+    };
+    write_form(to, &cage, read.weight, lent)
 }
 
 // Reads a file that is to have a form into tables that have room for any cage.
@@ -92,31 +94,21 @@ fn read_form(
 
 // Writes the file of a cage in a form, for form 1 where crease numbers and weight are all 0. Then the check without creases answers as the
 // one with them, so that no cage is checked twice.
-fn write_form(
-    form: Form,
-    twin: &[u32],
-    vert: &[u32],
-    edge: &[u32],
-    points: &[i32],
-    creases: &[u8],
-    weight: Weight,
-    lent: &mut [u8],
-) -> Result<usize, Refusal>
-    requires { length creases.now ≡ E twin.now }
-    ensures { let c = tables twin.now vert.now edge.now in
-        let w : Cage = record { connectivity = c; points = points.now; creases = creases.now; weight = weight } in
+fn write_form(form: Form, cage: &Cage, weight: Weight, lent: &mut [u8]) -> Result<usize, Refusal>
+    requires { length cage.now.creases.now ≡ E cage.now.tables.twin.now }
+    ensures { let w = weighted cage.now weight in
         let after = written (first (cage_moves form w ++ move_room form w lent.old)) (fields_file form w) lent.old in
         (wrote result ≡ after.answer) × (lent.new ≡ after.file) }
 {
     match form {
         Form::One => {
-            if !is_numbered(creases, weight) {
-                return writing::write(twin, vert, edge, points, lent);
+            if !is_numbered(cage.creases, weight) {
+                return writing::write(&cage.tables, cage.points, lent);
             }
-            cage::check_for_refining(twin, vert, edge, points, creases, 0, Weight::Short)?;
+            cage.check_for_refining(0, Weight::Short)?;
             Err(Refusal::NotOld)
         }
-        Form::Two => writing::write_form_2(twin, vert, edge, points, creases, weight, lent),
+        Form::Two => writing::write_form_2(cage, weight, lent),
     }
 }
 

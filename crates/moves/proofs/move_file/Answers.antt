@@ -41,8 +41,8 @@ returns-in_err-read c =
 pub slice_bounds-creases-end : goal.slice_bounds-creases-end
 slice_bounds-creases-end c = creases_held (goal.at.slice_bounds-creases-end c).After-count_edges-edges
 
-pub slice_bounds-write_form-end-5 : goal.slice_bounds-write_form-end-5
-slice_bounds-write_form-end-5 c = sym (length-take-le _ _ (creases_held (goal.at.slice_bounds-write_form-end-5 c).After-count_edges-edges))
+pub slice_bounds-cage-end-2 : goal.slice_bounds-cage-end-2
+slice_bounds-cage-end-2 c = sym (length-take-le _ _ (creases_held (goal.at.slice_bounds-cage-end-2 c).After-count_edges-edges))
 
 pub write_form-requires : goal.write_form-requires
 write_form-requires c =

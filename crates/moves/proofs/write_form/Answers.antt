@@ -6,10 +6,10 @@ use mathlib.Core.List.{List}
 use Rattle.halfedges.specs.declared.refusal.Refusal.TheVariants.{NotOld}
 use Rattle.halfedges.specs.Refusals.{first}
 use Rattle.halfedges.proofs.Told.{handed_on}
-use Rattle.tables.specs.Tables.{tables}
 use Rattle.cage.proofs.CageChecks.{short_checks}
 use Rattle.cagefile.specs.declared.fields.Form.TheVariants.{One, Two}
 use Rattle.cagefile.specs.Fields.{Cage}
+use Rattle.writing.specs.Writing.{weighted}
 use Rattle.writing.proofs.Outcomes.{refused_left}
 use Rattle.moves.specs.Moves.{not_old}
 use Rattle.moves.proofs.CageMoves.{old_plain, plain-written, old_written, moves_refused, moves_not_old}
@@ -18,13 +18,7 @@ use Rattle.moves.proofs.write_form.Goals.{Start}
 
 module _ (s : Start) where
   abbrev cage : Cage
-  cage =
-      record {
-        connectivity = tables s.args.twin.now s.args.vert.now s.args.edge.now;
-        points = s.args.points.now;
-        creases = s.args.creases.now;
-        weight = s.args.weight;
-      }
+  cage = weighted s.args.cage.now s.args.weight
 
   abbrev lent : List ℕ
   lent = s.args.lent.now
