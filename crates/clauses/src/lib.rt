@@ -57,9 +57,8 @@ impl Clause {
             Clause::TwinPast { .. } | Clause::TwinItself { .. } | Clause::NotReturned { .. } => {
                 Refusal::Twin(place)
             }
-            Clause::VertexPast { .. } | Clause::EndsAlike { .. } | Clause::TwinEndsDiffer { .. } => {
-                Refusal::Vertex(place)
-            }
+            Clause::VertexPast { .. } | Clause::EndsAlike { .. } | Clause::TwinEndsDiffer { .. } =>
+                { Refusal::Vertex(place) }
             Clause::Unused { .. } => Refusal::Unused(place),
             Clause::EdgePast { .. } | Clause::EdgeDiffers { .. } | Clause::EdgeShared { .. } => {
                 Refusal::Edge(place)
