@@ -1,6 +1,7 @@
 // Items in groups, each with a label, and for each item the first that is like it: in the same group, with the same label. The items
 // of a group are chained from the last to the first, and along the chain a table keeps, for each label, the item that was met last.
-// Each item is met three times, whatever the numbers are. An item k is chained as k + 1, and 0 ends a chain.
+// Each item is met three times, whatever the numbers are. An item k is chained as k + 1, and 0 ends a chain: nothing is allocated, so
+// a chain is links in a table that is lent.
 #![tactic(auto)]
 
 ghost use Rattle.std.specs.Prelude.{ℕ, ◌≤◌, ◌<◌, ◌≡◌, length, get_or};
@@ -68,6 +69,7 @@ pub fn mark(
     requires { Chain groups.now labels.now before.now group head × (bound ≤ length marks.old) }
     ensures { Marked groups.now labels.now group marks.new }
 {
+    // A walk along links, which no range counts. `mark` and `tell` differ in what a turn writes, and so in what they promise.
     let mut end = head;
     while end != 0 {
         let item = end - 1;
@@ -91,6 +93,7 @@ fn tell(
     requires bound_in_bounds { (bound ≤ length marks.now) × (length groups.now ≤ length first.old) }
     ensures { Told groups.now labels.now group first.old first.new }
 {
+    // A walk along links, which no range counts.
     let mut end = head;
     while end != 0 {
         let item = end - 1;

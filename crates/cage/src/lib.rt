@@ -4,64 +4,65 @@
 ghost use Rattle.std.specs.Prelude.{◌≡◌, ltb, nat_abs, length};
 ghost use Rattle.laws.specs.Below.{any};
 ghost use Rattle.halfedges.specs.Refusals.{POINT, told, given_at, first};
-ghost use Rattle.tables.specs.Tables.{tables};
+ghost use Rattle.tables.specs.Tables.{held};
 ghost use Rattle.tables.specs.Check.{checked};
-ghost use Rattle.points.specs.Operations.{unshaped as operations_unshaped, most_coordinate, out_of_range, cage_checks, refine_checks, check_creased};
+ghost use Rattle.points.specs.Operations.{vertices, unshaped as operations_unshaped, most_coordinate, out_of_range, cage_checks, refine_checks, check_creased};
 
 use creases::check as creased;
 use halfedges::refusal::Refusal;
 use points::rules::{LEAST_COORDINATE, MOST_COORDINATE};
 use points::weights::Weight;
-use tables::check;
 use tables::check::Checked;
+use tables::{Tables, check};
 use valences::check_valences;
 
+// A cage: its three tables, its points, and a number of each edge.
+#[derive(Clone, Copy)]
+pub struct Cage<'a> {
+    pub tables: Tables<'a>,
+    pub points: &'a [i32],
+    pub creases: &'a [u8],
+}
+
+impl Cage<'_> {
+    // V.
+    pub fn vertices(&self) -> usize
+        ensures { result ≡ vertices self.now.points.now }
+    {
+        self.points.len() / 3
+    }
+
+    // The cage check: checks 1 to 8 and 15 of any tables.
+    pub fn check(&self) -> Result<Checked, Refusal>
+        ensures { checked result ≡ check_creased (held self.now.tables) self.now.creases.now self.now.points.now }
+    {
+        self.check_for_refining(0, Weight::Short)?;
+        Ok(check::found(self.tables.twin, self.vertices()))
+    }
+
+    // The same checks, where the depth's limit counts too, and 14 by the weight chosen.
+    pub fn check_for_refining(&self, depth: usize, weight: Weight) -> Result<(), Refusal>
+        ensures { told result
+            ≡ first (refine_checks weight (held self.now.tables) self.now.creases.now self.now.points.now depth) }
+    {
+        if self.points.len() % 3 != 0 {
+            return Err(Refusal::Shape);
+        }
+        let vertices = self.vertices();
+        creased::check_for_depth(&self.tables, self.creases, vertices, depth)?;
+        check_valences(weight, self.tables.twin, self.tables.vert, vertices)?;
+        check_points(self.points)
+    }
+}
+
 // Checks 1 to 8 of any tables without creases, as writing form 1 has them. No weight is chosen here, so none for which 14 would be given.
-pub fn verdict(twin: &[u32], vert: &[u32], edge: &[u32], points: &[i32]) -> Result<(), Refusal>
-    ensures { told result ≡ first (cage_checks (tables twin.now vert.now edge.now)
-        points.now 0) }
+pub fn check_plain(tables: &Tables, points: &[i32]) -> Result<(), Refusal>
+    ensures { told result ≡ first (cage_checks (held tables.now) points.now 0) }
 {
     if points.len() % 3 != 0 {
         return Err(Refusal::Shape);
     }
-    check::check_for_depth(twin, vert, edge, points.len() / 3, 0)?;
-    check_points(points)
-}
-
-// The cage check with a crease table: checks 1 to 8 and 15.
-pub fn check_creased(
-    twin: &[u32],
-    vert: &[u32],
-    edge: &[u32],
-    points: &[i32],
-    creases: &[u8],
-) -> Result<Checked, Refusal>
-    ensures { checked result ≡ check_creased (tables twin.now vert.now edge.now)
-        creases.now points.now }
-{
-    check_for_refining(twin, vert, edge, points, creases, 0, Weight::Short)?;
-    Ok(check::found(twin, points.len() / 3))
-}
-
-// Checks 1 to 8 and 15 of any tables, where the depth's limit counts too, and 14 by the weight chosen.
-pub fn check_for_refining(
-    twin: &[u32],
-    vert: &[u32],
-    edge: &[u32],
-    points: &[i32],
-    creases: &[u8],
-    depth: usize,
-    weight: Weight,
-) -> Result<(), Refusal>
-    ensures { told result ≡ first (refine_checks weight (tables twin.now vert.now edge.now)
-        creases.now points.now depth) }
-{
-    if points.len() % 3 != 0 {
-        return Err(Refusal::Shape);
-    }
-    let vertices = points.len() / 3;
-    creased::check_for_depth(twin, vert, edge, creases, vertices, depth)?;
-    check_valences(weight, twin, vert, vertices)?;
+    tables.check_for_depth(points.len() / 3, 0)?;
     check_points(points)
 }
 

@@ -2,7 +2,7 @@
 ghost use Rattle.std.specs.Prelude.{◌≡◌, not, ◌&&◌, ◌||◌, ◌≤◌, ◌<◌, eqb, ltb, length};
 ghost use Rattle.halfedges.specs.Cage.{E};
 ghost use Rattle.halfedges.specs.Refusals.{CREASE, told, given_at, first};
-ghost use Rattle.tables.specs.Tables.{tables};
+ghost use Rattle.tables.specs.Tables.{held};
 ghost use Rattle.creases.specs.Creases.{most_crease, bad_crease};
 ghost use Rattle.creases.specs.Check.{creased_table_checks};
 ghost use Rattle.creases.specs.Internal.Borders.{ForCreases, Markable, MarkedAt, MarkedTo, Marked};
@@ -10,30 +10,28 @@ ghost use Rattle.creases.specs.Internal.Borders.{ForCreases, Markable, MarkedAt,
 use halfedges::refusal::Refusal;
 use halfedges::table::HalfedgeTable;
 use tables::cells::wide;
-use tables::{check, fans, rules};
+use tables::{Tables, fans, rules};
 
 // The most levels for which an edge stays sharp.
 pub const MOST_CREASE: u8 = 10;
 
 // Checks 1 to 7 and 15 of any tables, where the depth's limit counts too.
 pub fn check_for_depth(
-    twin: &[u32],
-    vert: &[u32],
-    edge: &[u32],
+    cage: &Tables,
     creases: &[u8],
     vertices: usize,
     depth: usize,
 ) -> Result<(), Refusal>
-    ensures { told result ≡ first (creased_table_checks (tables twin.now vert.now edge.now)
+    ensures { told result ≡ first (creased_table_checks (held cage.now)
         creases.now vertices depth) }
 {
-    check::check_pairs(twin, vert, edge, vertices, depth)?;
-    if creases.len() != rules::count_edges(twin) {
+    cage.check_pairs(vertices, depth)?;
+    if creases.len() != rules::count_edges(cage.twin) {
         return Err(Refusal::Shape);
     }
-    check::check_places(twin, vert, edge, vertices)?;
-    check_creases(twin, edge, creases)?;
-    fans::check_fans(twin, vert, vertices)
+    cage.check_places(vertices)?;
+    check_creases(cage.twin, cage.edge, creases)?;
+    fans::check_fans(cage.twin, cage.vert, vertices)
 }
 
 // Rule 15, where rules 1 to 3 and 6 are kept.

@@ -2,13 +2,13 @@
 -- comes what the form has (`left_one`, `left_two`; `plain_left_lem`, `creased_left_lem`). Where they pass the tables are whole (`tables_whole`). Assumes nothing.
 use Prim.Native.Nat.{ℕ, ◌+◌, ◌*◌, ◌≤◌}
 use mathlib.Core.Path.{◌≡◌}
-use mathlib.Core.Logic.{◌≢◌}
 use mathlib.Core.List.{List, [], ◌∷◌, ◌++◌}
 use native.Mathlib.Omega.{arith}
 use lib.ListN.{length}
 use Rattle.halfedges.specs.Cage.{E}
-use Rattle.halfedges.specs.Refusals.{Verdict, DONE, first}
-use Rattle.halfedges.proofs.Checks.{done_both, first_stops, first_passes}
+use Rattle.halfedges.specs.declared.refusal.Refusal.{Refusal}
+use Rattle.halfedges.specs.Refusals.{Verdict, DONE, refused, first}
+use Rattle.halfedges.proofs.Checks.{done_both, stops_before, passes_before}
 use Rattle.cagefile.specs.declared.fields.Form.{Form}
 use Rattle.cagefile.specs.declared.fields.Form.TheVariants.{One, Two}
 use Rattle.cagefile.specs.Fields.{opening, table_heads, later_heads, heads}
@@ -47,21 +47,19 @@ module _ (f : List ℕ) where
   unfolding twins_asked
   left_two = tables-asked f (HIn f) (later_heads Two (E (twins_in f)) (VIn f)) (twins_asked f) (nothing ∷ nothing ∷ weight_asked f ∷ [])
 
-  -- v is what the tables' fields answer
-  module _ (v : Verdict) (e : v ≡ first tables) where
-    pub tables_stop : v.number ≢ 0 → v ≡ first (front_to_back f (past 0 opening) (later_asked (form_of f) f) (heads_in f))
+  pub tables_stop : (r : Refusal) → refused r ≡ first tables → refused r ≡ first (front_to_back f (past 0 opening) (later_asked (form_of f) f) (heads_in f))
+  unfolding heads_in
+  tables_stop r e = by (form_of f)
+    where
+      by : (form : Form) → refused r ≡ first (left form)
+      by One = rw left_one (stops_before tables plain_left r e)
+      by Two = rw left_two (stops_before tables creased_left r e)
+
+  module _ (e : DONE ≡ first tables) where
+    pub plain_left_lem : form_of f ≡ One → first plain_left ≡ first (front_to_back f (past 0 opening) (later_asked (form_of f) f) (heads_in f))
     unfolding heads_in
-    tables_stop r = by (form_of f)
-      where
-        by : (form : Form) → v ≡ first (left form)
-        by One = rw left_one (first_stops tables plain_left v e r)
-        by Two = rw left_two (first_stops tables creased_left v e r)
+    plain_left_lem o = rw (o, left_one) (passes_before tables plain_left e)
 
-    module _ (z : v.number ≡ 0) where
-      pub plain_left_lem : form_of f ≡ One → first (front_to_back f (past 0 opening) (later_asked (form_of f) f) (heads_in f)) ≡ first plain_left
-      unfolding heads_in
-      plain_left_lem o = rw (o, left_one) (first_passes tables plain_left v e z)
-
-      pub creased_left_lem : form_of f ≡ Two → first (front_to_back f (past 0 opening) (later_asked (form_of f) f) (heads_in f)) ≡ first creased_left
-      unfolding heads_in
-      creased_left_lem o = rw (o, left_two) (first_passes tables creased_left v e z)
+    pub creased_left_lem : form_of f ≡ Two → first creased_left ≡ first (front_to_back f (past 0 opening) (later_asked (form_of f) f) (heads_in f))
+    unfolding heads_in
+    creased_left_lem o = rw (o, left_two) (passes_before tables creased_left e)

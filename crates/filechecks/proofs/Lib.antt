@@ -1,3 +1,4 @@
+pub mod LastCheck
 pub mod FieldLaws
 pub mod FrontToBack
 pub mod AfterTables

@@ -2,21 +2,20 @@
 --     twins_at, verts_at, edges_at the tables
 --     creases_at_lem                   the creases, of which form 1 has none (`no_creases_lem`)
 --     plain_points, creased_points the points, in form 1 and in form 2
---     plain_weight, creased_weight the weight's number
-use Prim.Native.Nat.{ℕ, zero, suc, ◌+◌, ◌*◌, ◌≤◌}
+--     plain_weight, creased_weight the weight
+use Prim.Native.Nat.{ℕ, ◌+◌, ◌*◌}
 use mathlib.Core.Path.{◌≡◌, refl, ap, ◌∙◌}
 use mathlib.Core.List.{List, []}
-use native.Mathlib.Nat.{not-suc-le-zero, le_of_suc-le-suc}
 use native.Mathlib.Omega.{arith}
 use lib.ListN.{get_or}
 use Rattle.laws.specs.Below.{tabulate}
 use Rattle.halfedges.specs.Cage.{E}
-use Rattle.points.specs.Weights.{weight_of, weight_number}
+use Rattle.points.specs.declared.weights.Weight.TheVariants.{Short}
+use Rattle.points.specs.Weights.{weight_of}
 use Rattle.cagefile.specs.declared.fields.Form.TheVariants.{One, Two}
 use Rattle.cagefile.specs.Fields.{table_heads, later_heads}
 use Rattle.cagefile.specs.Numbers.{u16_at, u32_at, as_twin, signed}
 use Rattle.filechecks.specs.Contents.{HIn, VIn, EIn, form_of, twins_in, verts_in, edges_in, heads_in, payload_at, payload, creases_read, points_in, weight_in}
-use Rattle.filechecks.specs.Internal.Sound.{Sound}
 
 module _ (f : List ℕ) (h : ℕ) (p : h ≡ HIn f) where
   pub twins_at : tabulate h (λ k. as_twin (u16_at f (12 + 2 * k))) ≡ twins_in f
@@ -37,12 +36,6 @@ creases_at_lem f h e p q =
     let at : 18 + 6 * HIn f + 3 ≡ 12 + 2 * HIn f + 3 + 2 * HIn f + 3 + 2 * HIn f + 3 = omega arith in
     rw (p, q) (ap (λ a. tabulate (EIn f) (λ k. get_or f (a + k) 0)) at)
 
--- a byte of 0 or 1 is the number of its weight
-weight_back : (n : ℕ) → n ≤ 1 → n ≡ weight_number (weight_of n)
-weight_back zero l = refl
-weight_back (suc zero) l = refl
-weight_back (suc (suc n)) l = absurd (not-suc-le-zero (le_of_suc-le-suc l))
-
 module _ (f : List ℕ) (h v : ℕ) (p : h ≡ HIn f) (q : v ≡ VIn f) where
   module _ (one : form_of f ≡ One) where
     pub no_creases_lem : creases_read f ≡ []
@@ -55,7 +48,7 @@ module _ (f : List ℕ) (h v : ℕ) (p : h ≡ HIn f) (q : v ≡ VIn f) where
         let at : 18 + 6 * HIn f + 3 ≡ 12 + 2 * HIn f + 3 + 2 * HIn f + 3 + 2 * HIn f + 3 = omega arith in
         rw (one, p, q) (ap (λ a. tabulate (3 * VIn f) (λ i. signed (u32_at f (a + 4 * i)))) at)
 
-    pub plain_weight : 0 ≡ weight_number (weight_in f)
+    pub plain_weight : Short ≡ weight_in f
     unfolding weight_in
     plain_weight = rw one
 
@@ -77,6 +70,6 @@ module _ (f : List ℕ) (h v : ℕ) (p : h ≡ HIn f) (q : v ≡ VIn f) where
     unfolding heads_in table_heads later_heads payload_at
     weight_there = rw (two, p, q, edges) (omega arith)
 
-    pub creased_weight : Sound f → get_or f weight_at 0 ≡ weight_number (weight_in f)
+    pub creased_weight : weight_of (get_or f weight_at 0) ≡ weight_in f
     unfolding weight_in
-    creased_weight s = rw (two, weight_there) (weight_back (get_or f weight_at 0) (rw weight_there at (s.light two)))
+    creased_weight = rw (two, weight_there) refl

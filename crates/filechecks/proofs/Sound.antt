@@ -6,7 +6,6 @@
 --     sound_at_most          which is 43,032 at most, or 46,111 in form 2
 use Prim.Native.Nat.{ℕ, ◌+◌, ◌*◌, ◌≤◌}
 use mathlib.Core.Path.{◌≡◌, refl, sym, ap, ◌∙◌}
-use mathlib.Core.Logic.{◌≢◌}
 use mathlib.Core.Bool.{false, true≢false}
 use mathlib.Core.List.{List, [], ◌∷◌}
 use native.Mathlib.Decide.{ℕ_discrete}
@@ -37,10 +36,6 @@ module _ (f : List ℕ) where
   unfolding form_of
   form_is One e = rw (ne_eqb (form_in f) 2 (λ q. omega arith))
   form_is Two e = rw (eq-eqb (form_in f) 2 e)
-
-  pub form_other : form_in f ≢ 2 → form_of f ≡ One
-  unfolding form_of
-  form_other n = rw (ne_eqb (form_in f) 2 n)
 
   -- a form that is among those asked for is not another
   pub form_known : (form : Form) → form_in f ≡ number form → (other_form both f ≡ false) × (other_form (form ∷ []) f ≡ false)

@@ -5,7 +5,7 @@ ghost use Rattle.halfedges.specs.Cage.{most_halfedges, most_depth};
 ghost use Rattle.halfedges.specs.Refusals.{told, first};
 ghost use Rattle.halfedges.specs.Internal.Counts.{AtMost};
 ghost use Rattle.halfedges.specs.Counts.{room_h, counted};
-ghost use Rattle.tables.specs.Tables.{tables, counts_from};
+ghost use Rattle.tables.specs.Tables.{tables, held, counts_from};
 ghost use Rattle.levels.specs.Refining.{short_tables, levels_end_to_end, refine_tables_verdict, refine_tables};
 ghost use Rattle.splitting.specs.Internal.InPlace.{level_at};
 ghost use Rattle.levels.specs.Internal.Filling.{Refinable, tables_in_front};
@@ -13,7 +13,7 @@ ghost use Rattle.levels.specs.Internal.Filling.{Refinable, tables_in_front};
 use halfedges::refusal::Refusal;
 use halfedges::table::{HalfedgeTable, Levels};
 use splitting::level;
-use tables::{check, rules};
+use tables::{Tables, rules};
 
 // Fills in levels 1 to depth after the cage, which stands in front of the tables.
 pub fn fill_levels(
@@ -32,7 +32,7 @@ pub fn fill_levels(
 {
     let mut table = cage;
     let mut at = 0;
-    for filled in 0..depth {
+    for _level in 0..depth {
         level::next_level(twin, vert, edge, at, table);
         at += table.halfedges;
         table = table.finer();
@@ -41,27 +41,23 @@ pub fn fill_levels(
 
 // Refines a cage's tables into three lent tables: levels 0 to depth, end to end.
 pub fn refine_tables(
-    cage_twin: &[u32],
-    cage_vert: &[u32],
-    cage_edge: &[u32],
+    cage: &Tables,
     vertices: usize,
     depth: usize,
     twin: &mut [u32],
     vert: &mut [u32],
     edge: &mut [u32],
 ) -> Result<Levels, Refusal>
-    ensures result_value { counted result ≡ (refine_tables (tables cage_twin.now cage_vert.now cage_edge.now)
+    ensures result_value { counted result ≡ (refine_tables (held cage.now)
         vertices depth (tables twin.old vert.old edge.old)).answer }
     ensures edge_after { tables twin.new vert.new edge.new
-        ≡ (refine_tables (tables cage_twin.now cage_vert.now cage_edge.now)
+        ≡ (refine_tables (held cage.now)
         vertices depth (tables twin.old vert.old edge.old)).lent }
 {
-    plan(
-        cage_twin, cage_vert, cage_edge, vertices, depth, twin, vert, edge,
-    )?;
-    let of = counts_of(cage_twin, vertices);
-    fill(cage_twin, cage_vert, cage_edge, of, depth, twin, vert, edge);
-    Ok(of.levels(depth))
+    plan(cage, vertices, depth, &Tables { twin, vert, edge })?;
+    let counts = counts_of(cage.twin, vertices);
+    fill(cage, counts, depth, twin, vert, edge);
+    Ok(counts.levels(depth))
 }
 
 // H, E and V of a cage's tables.
@@ -76,50 +72,34 @@ pub fn counts_of(twin: &[u32], vertices: usize) -> HalfedgeTable
 }
 
 // Checks 1 to 7 of any tables, and then the room of the lent ones.
-fn plan(
-    cage_twin: &[u32],
-    cage_vert: &[u32],
-    cage_edge: &[u32],
-    vertices: usize,
-    depth: usize,
-    twin: &[u32],
-    vert: &[u32],
-    edge: &[u32],
-) -> Result<(), Refusal>
-    ensures { told result ≡ refine_tables_verdict (tables cage_twin.now cage_vert.now cage_edge.now)
-        vertices depth (tables twin.now vert.now edge.now) }
+fn plan(cage: &Tables, vertices: usize, depth: usize, lent: &Tables) -> Result<(), Refusal>
+    ensures { told result ≡ refine_tables_verdict (held cage.now)
+        vertices depth (held lent.now) }
 {
-    check::check_for_depth(cage_twin, cage_vert, cage_edge, vertices, depth)?;
-    let of = counts_of(cage_twin, vertices);
-    short_levels(of, depth, twin, vert, edge)
+    cage.check_for_depth(vertices, depth)?;
+    short_levels(counts_of(cage.twin, vertices), depth, lent)
 }
 
 // The first of three lent tables that is shorter than a cage's levels 0 to depth, end to end.
-pub fn short_levels(
-    cage: HalfedgeTable,
-    depth: usize,
-    twin: &[u32],
-    vert: &[u32],
-    edge: &[u32],
-) -> Result<(), Refusal>
+pub fn short_levels(cage: HalfedgeTable, depth: usize, lent: &Tables) -> Result<(), Refusal>
     requires { (AtMost most_halfedges cage) × (depth ≤ most_depth) }
-    ensures { told result ≡ first (short_tables (room_h cage depth) (tables twin.now vert.now edge.now)) }
+    ensures { told result ≡ first (short_tables (room_h cage depth) (held lent.now)) }
 {
     let levels = cage.levels(depth);
-    short_table(levels.halfedge_room, twin, vert, edge)
+    short_table(levels.halfedge_room, lent)
 }
 
 // The first of three lent tables that is shorter than the room.
-fn short_table(room: usize, twin: &[u32], vert: &[u32], edge: &[u32]) -> Result<(), Refusal>
-    ensures { told result ≡ first (short_tables room (tables twin.now vert.now edge.now)) }
+fn short_table(room: usize, lent: &Tables) -> Result<(), Refusal>
+    ensures { told result ≡ first (short_tables room (held lent.now)) }
 {
-    if twin.len() < room {
+    if lent.twin.len() < room {
         return Err(Refusal::Room(1));
     }
-    if vert.len() < room {
+    if lent.vert.len() < room {
         return Err(Refusal::Room(2));
     }
-    if edge.len() < room {
+    if lent.edge.len() < room {
         return Err(Refusal::Room(3));
     }
     Ok(())
@@ -127,30 +107,28 @@ fn short_table(room: usize, twin: &[u32], vert: &[u32], edge: &[u32]) -> Result<
 
 // Copies a cage's tables to the front of the lent ones, and fills in its levels after it.
 pub fn fill(
-    cage_twin: &[u32],
-    cage_vert: &[u32],
-    cage_edge: &[u32],
-    cage: HalfedgeTable,
+    cage: &Tables,
+    counts: HalfedgeTable,
     depth: usize,
     twin: &mut [u32],
     vert: &mut [u32],
     edge: &mut [u32],
 )
-    requires { Refinable cage depth (tables cage_twin.now cage_vert.now cage_edge.now)
+    requires { Refinable counts depth (held cage.now)
         (tables twin.old vert.old edge.old) }
     ensures { tables twin.new vert.new edge.new
         ≡ tables_in_front
-        (levels_end_to_end cage (tables cage_twin.now cage_vert.now cage_edge.now) depth)
+        (levels_end_to_end counts (held cage.now) depth)
         (tables twin.old vert.old edge.old) }
 {
-    copy(cage_twin, twin);
-    copy(cage_vert, vert);
-    copy(cage_edge, edge);
-    fill_levels(twin, vert, edge, cage, depth);
+    copy(cage.twin, twin);
+    copy(cage.vert, vert);
+    copy(cage.edge, edge);
+    fill_levels(twin, vert, edge, counts, depth);
 }
 
 // Copies a table to the front of another.
-pub fn copy(from: &[u32], to: &mut [u32])
+pub fn copy<T: Copy>(from: &[T], to: &mut [T])
     requires { length from.now ≤ length to.old }
     ensures { to.new ≡ in_front from.now to.old }
 {

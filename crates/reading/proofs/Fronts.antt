@@ -14,10 +14,11 @@ use Rattle.laws.specs.Below.{tabulate}
 use Rattle.laws.specs.Parts.{in_front}
 use Rattle.laws.proofs.Parts.{length-in_front}
 use Rattle.laws.proofs.Tabulate.{length-tabulate}
+use Rattle.std.specs.Prelude.{Result, Ok, Err, IfOk}
 use Rattle.halfedges.specs.Cage.{E, most_halfedges}
+use Rattle.halfedges.specs.declared.refusal.Refusal.{Refusal}
 use Rattle.halfedges.specs.Refusals.{DONE, told, given, short, first, said}
 use Rattle.halfedges.proofs.Checks.{first_zero, first_more, first_refused_before}
-use Rattle.halfedges.proofs.Told.{zero_done}
 use Rattle.tables.specs.Tables.{Tables}
 use Rattle.levels.specs.Refining.{short_tables}
 use Rattle.cagefile.specs.declared.fields.Form.{Form}
@@ -25,12 +26,13 @@ use Rattle.cagefile.specs.declared.fields.Form.TheVariants.{One, Two}
 use Rattle.reading.specs.declared.Reading.{Reading}
 use Rattle.filechecks.specs.Contents.{HIn, VIn, EIn, edges_for, form_of, table_payload, creases_for, cage_in, twins_in, verts_in, edges_in, creases_read, points_in}
 use Rattle.filechecks.specs.FileChecks.{file_checks, both}
-use Rattle.reading.specs.Reading.{short_room, read_verdict, read_file, reported}
+use Rattle.reading.specs.Reading.{short_room, read_verdict, read_file, numbers, reported}
 use Rattle.filechecks.specs.Internal.Sound.{Sound}
 use Rattle.reading.specs.Internal.Fronts.{Ample, Fronts}
 use Rattle.filechecks.proofs.Sound.{checks_sound, edges_few, few_creases}
 use Rattle.filechecks.proofs.Lengths.{twins-length, verts_length, edges_length, creases_length, points_length}
 use Rattle.reading.proofs.Outcomes.{values_in, Left, read_done}
+use Rattle.reading.proofs.Told.{weight-alike}
 
 module _ (f : List ℕ) (lent : Tables) (lent_points : List ℤ) (lentCreases : List ℕ) (ample : Ample lent lent_points lentCreases) where
   room_passes : Sound f → first (short_room f lent lent_points lentCreases) ≡ DONE
@@ -54,19 +56,21 @@ module _ (f : List ℕ) (lent : Tables) (lent_points : List ℤ) (lentCreases : 
           first_more (file_checks both f) _ d ∙ room_passes (checks_sound f both d) ∙ sym d
       by (no n) = first_refused_before (short_room f lent lent_points lentCreases) (file_checks both f) n
 
-  module _ (r : Reading) (now : Tables) (points : List ℤ) (creases : List ℕ) (left : Left (read_file f lent lent_points lentCreases) (reported r) now points creases) where
-    pub ample_told : told r.answer ≡ first (file_checks both f)
+  module _ (now : Tables) (points : List ℤ) (creases : List ℕ) where
+    pub ample_told : (x : Result Reading Refusal) → Left (read_file f lent lent_points lentCreases) (reported x) now points creases → told x ≡ first (file_checks both f)
     unfolding read_file said
-    ample_told = ap (λ s. s.verdict) left.0 ∙ ample_verdict
+    ample_told (Ok r) left = ap (λ s. s.verdict) left.0 ∙ ample_verdict
+    ample_told (Err r) left = ap (λ s. s.verdict) left.0 ∙ ample_verdict
 
-    pub ample_fronts : (told r.answer).number ≡ 0 → Fronts f r now points lentCreases creases
-    ample_fronts z =
-        let all = read_done f lent lent_points lentCreases (ample_verdict ∙ sym ample_told ∙ zero_done r.answer z) in
-        let values : (reported r).values ≡ values_in f = ap (λ s. s.values) (left.0 ∙ ap (λ a. a.answer) all) in
+    pub ample_fronts : (r : Reading) → Left (read_file f lent lent_points lentCreases) (reported (Ok r)) now points creases → Fronts f r now points lentCreases creases
+    ample_fronts r left =
+        let done : DONE ≡ first (file_checks both f) = ample_told (Ok r) left in
+        let all = read_done f lent lent_points lentCreases (ample_verdict ∙ sym done) in
+        let values : numbers r ≡ values_in f = ap (λ s. s.values) (left.0 ∙ ap (λ a. a.answer) all) in
         let H : r.halfedges ≡ HIn f = ap (λ vs. get_or vs 1 0) values in
         let v : r.vertices ≡ VIn f = ap (λ vs. get_or vs 2 0) values in
         let e : r.edges ≡ EIn f = ap (λ vs. get_or vs 3 0) values in
-        let s = checks_sound f both (sym ample_told ∙ zero_done r.answer z) in
+        let s = checks_sound f both (sym done) in
         record {
           sound = s;
           ample =
@@ -80,13 +84,18 @@ module _ (f : List ℕ) (lent : Tables) (lent_points : List ℤ) (lentCreases : 
           halfedges = H;
           vertices = v;
           edges = e;
-          weight = ap (λ vs. get_or vs 4 0) values;
+          weight = weight-alike r.weight _ (ap (λ vs. get_or vs 4 0) values);
           twin = rw (left.1, all, H) (take_at (twins_in f) _ _ (twins-length f));
           vert = rw (left.1, all, H) (take_at (verts_in f) _ _ (verts_length f));
           edge = rw (left.1, all, H) (take_at (edges_in f) _ _ (edges_length f));
           coordinates = rw (left.2, all, v) (take_at (points_in f) _ _ (points_length f));
           creases = rw (left.3, all) refl;
         }
+
+    -- of whichever result
+    pub ample_if_ok : (x : Result Reading Refusal) → Left (read_file f lent lent_points lentCreases) (reported x) now points creases → IfOk x (λ r. Fronts f r now points lentCreases creases)
+    ample_if_ok (Ok r) left = ample_fronts r left
+    ample_if_ok (Err r) left = tt
 
 take-replicate : {A : Type 0} (m n : ℕ) (x : A) → m ≤ n → take m (replicate n x) ≡ replicate m x
 take-replicate zero n x l = refl

@@ -1,7 +1,8 @@
 -- Document 01, "The cage file", and document 02, §7 "Form 2 files": reading.
-use Rattle.std.specs.Prelude.{ℕ, ◌*◌, List, [], ◌∷◌, ◌++◌, ℤ, length}
+use Rattle.std.specs.Prelude.{ℕ, ◌*◌, List, [], ◌∷◌, ◌++◌, ℤ, Result, length}
 use Rattle.reading.specs.declared.Reading.{Reading}
-use Rattle.halfedges.specs.Refusals.{Verdict, told, short, first, Said, said, filled}
+use Rattle.halfedges.specs.declared.refusal.Refusal.{Refusal}
+use Rattle.halfedges.specs.Refusals.{Verdict, short, first, Said, said, answered, filled}
 use Rattle.tables.specs.Tables.{Tables, tables}
 use Rattle.levels.specs.Refining.{short_tables, filled_tables}
 use Rattle.points.specs.Weights.{weight_number}
@@ -34,7 +35,10 @@ read_file f lent lent_points lentCreases =
       creases = filled verdict (creases_read f) lentCreases;
     }
 
+-- the form, H, V, E and weight as the code has them
+abbrev pub numbers : Reading → List ℕ
+numbers r = number r.form ∷ r.halfedges ∷ r.vertices ∷ r.edges ∷ weight_number r.weight ∷ []
+
 -- what the code's answer says
-abbrev pub reported : Reading → Said (List ℕ)
-reported r =
-    record { verdict = told r.answer; values = r.form ∷ r.halfedges ∷ r.vertices ∷ r.edges ∷ r.weight ∷ [] }
+abbrev pub reported : Result Reading Refusal → Said (List ℕ)
+reported = answered numbers (0 ∷ 0 ∷ 0 ∷ 0 ∷ 0 ∷ [])

@@ -31,14 +31,6 @@ pub fn copy_points(file: &[u8], at: usize, points: &mut [i32], count: usize)
     }
 }
 
-// The weight's payload, which is one byte.
-pub fn byte_at(file: &[u8], at: usize) -> u32
-    requires { at < length file.now }
-    ensures { result ≡ get_or file.now at 0 }
-{
-    file[at] as u32
-}
-
 // The creases' payload, a byte for each edge.
 pub fn copy_creases(file: &[u8], at: usize, creases: &mut [u8], count: usize)
     requires { (at + count ≤ length file.now) × (count ≤ length creases.old) }

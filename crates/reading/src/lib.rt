@@ -3,57 +3,41 @@
 
 ghost use Rattle.std.specs.Prelude.{◌≡◌, [], ◌∷◌, ◌+◌, ◌*◌, ◌≤◌, length};
 ghost use Rattle.laws.specs.Parts.{in_front};
-ghost use Rattle.halfedges.specs.Refusals.{DONE, told};
 ghost use Rattle.tables.specs.Tables.{tables};
 ghost use Rattle.points.specs.Weights.{weight_number};
 ghost use Rattle.cagefile.specs.Fields.{number};
 ghost use Rattle.filechecks.specs.Contents.{HIn, VIn, EIn, form_of, twins_in, verts_in, edges_in, creases_read, points_in, weight_in};
 ghost use Rattle.filechecks.specs.Internal.Sound.{Sound};
-ghost use Rattle.reading.specs.Reading.{read_file, reported};
+ghost use Rattle.reading.specs.Reading.{read_file, numbers, reported};
 
 use cagefile::fields;
+use cagefile::fields::Form;
 use filechecks::twins;
-use halfedges::answer::Answer;
+use halfedges::refusal::Refusal;
+use points::weights::Weight;
 
 mod checks;
 mod copies;
 
-// The answer of reading: the form, H, V, E and the weight's number where it is done, zeros where it refuses. Of form 1 E and the weight
-// are zero too.
+// What reading finds of a file that reads: the form, H, V, E and the weight. Of form 1 E is zero and the weight short.
 #[derive(Clone, Copy)]
 pub struct Reading {
-    pub answer: Answer,
-    pub form: u32,
+    pub form: Form,
     pub halfedges: usize,
     pub vertices: usize,
     pub edges: usize,
-    pub weight: u32,
+    pub weight: Weight,
 }
 
 impl Reading {
-    // A refusal: besides number and place everything is zero.
-    pub fn refused(answer: Answer) -> Reading
-        ensures { reported result ≡ record { verdict = told answer; values = 0 ∷ 0 ∷ 0 ∷ 0 ∷ 0 ∷ [] } }
-    {
-        Reading {
-            answer,
-            form: 0,
-            halfedges: 0,
-            vertices: 0,
-            edges: 0,
-            weight: 0,
-        }
-    }
-
-    // Done, with the numbers of a file that reads and its weight's number.
-    fn of(file: &[u8], weight: u32) -> Reading
+    // The numbers of a file that reads, and its weight.
+    fn of(file: &[u8], weight: Weight) -> Reading
         requires { Sound file.now }
         ensures { let f = file.now in
-            reported result ≡ record { verdict = DONE; values = number (form_of f) ∷ HIn f ∷ VIn f ∷ EIn f ∷ weight ∷ [] } }
+            numbers result ≡ number (form_of f) ∷ HIn f ∷ VIn f ∷ EIn f ∷ weight_number weight ∷ [] }
     {
         Reading {
-            answer: Answer::Done,
-            form: filechecks::form_in(file),
+            form: filechecks::form_of(file),
             halfedges: filechecks::halfedges_in(file),
             vertices: filechecks::vertices_in(file),
             edges: filechecks::edges_in(file),
@@ -72,31 +56,35 @@ pub fn copy_tables(file: &[u8], twin: &mut [u32], vert: &mut [u32], edge: &mut [
 {
     let halfedges = filechecks::halfedges_in(file);
     let table = 2 * halfedges;
-    twins::copy_twins(file, twins::TWIN_AT, &mut *twin, halfedges);
+    twins::copy_twins(file, twins::TWIN_AT, twin, halfedges);
     let vert_at = twins::TWIN_AT + table + fields::HEAD;
-    copies::copy_numbers(file, vert_at, &mut *vert, halfedges);
+    copies::copy_numbers(file, vert_at, vert, halfedges);
     let edge_at = vert_at + table + fields::HEAD;
-    copies::copy_numbers(file, edge_at, &mut *edge, halfedges);
+    copies::copy_numbers(file, edge_at, edge, halfedges);
 }
 
-// The payloads of points and creases, and the weight's number: in form 2 the creases come first, in form 1 there are only points.
-fn copy_rest(file: &[u8], points: &mut [i32], creases: &mut [u8]) -> u32
+// The payloads of points and creases, and the weight: in form 2 the creases come first, in form 1 there are only points.
+fn copy_rest(file: &[u8], points: &mut [i32], creases: &mut [u8]) -> Weight
     requires { Sound file.now × (3 * VIn file.now ≤ length points.old) × (EIn file.now ≤ length creases.old) }
     ensures { let f = file.now in
-        (result ≡ weight_number (weight_in f)) × (points.new ≡ in_front (points_in f) points.old)
+        (result ≡ weight_in f) × (points.new ≡ in_front (points_in f) points.old)
         × (creases.new ≡ in_front (creases_read f) creases.old) }
 {
     let coordinates = 3 * filechecks::vertices_in(file);
     let at = filechecks::after_tables(filechecks::halfedges_in(file)) + fields::HEAD;
-    if !filechecks::has_creases(file) {
-        copies::copy_points(file, at, &mut *points, coordinates);
-        return 0;
+    match filechecks::form_of(file) {
+        Form::One => {
+            copies::copy_points(file, at, points, coordinates);
+            Weight::Short
+        }
+        Form::Two => {
+            let edges = filechecks::edges_in(file);
+            copies::copy_creases(file, at, creases, edges);
+            let points_at = at + edges + fields::HEAD;
+            copies::copy_points(file, points_at, points, coordinates);
+            Weight::numbered(u32::from(file[points_at + 4 * coordinates + fields::HEAD]))
+        }
     }
-    let edges = filechecks::edges_in(file);
-    copies::copy_creases(file, at, &mut *creases, edges);
-    let points_at = at + edges + fields::HEAD;
-    copies::copy_points(file, points_at, &mut *points, coordinates);
-    copies::byte_at(file, points_at + 4 * coordinates + fields::HEAD)
 }
 
 // Reads any bytes into lent tables of any length.
@@ -107,17 +95,14 @@ pub fn read(
     edge: &mut [u32],
     points: &mut [i32],
     creases: &mut [u8],
-) -> Reading
+) -> Result<Reading, Refusal>
     ensures { let after = read_file file.now (tables twin.old vert.old edge.old)
         points.old creases.old in
         (reported result ≡ after.answer) × (tables twin.new vert.new edge.new ≡ after.lent)
         × (points.new ≡ after.points) × (creases.new ≡ after.creases) }
 {
-    let answer = checks::refusal(file, &*twin, &*vert, &*edge, &*points, &*creases);
-    if answer.number() != 0 {
-        return Reading::refused(answer);
-    }
-    copy_tables(file, &mut *twin, &mut *vert, &mut *edge);
-    let weight = copy_rest(file, &mut *points, &mut *creases);
-    Reading::of(file, weight)
+    checks::check_reading(file, twin, vert, edge, points, creases)?;
+    copy_tables(file, twin, vert, edge);
+    let weight = copy_rest(file, points, creases);
+    Ok(Reading::of(file, weight))
 }

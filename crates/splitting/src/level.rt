@@ -1,4 +1,5 @@
-// One level to the next, written straight after it in the same tables.
+// One level to the next, written straight after it in the same tables. Each table has a loop of its own: one that took the split as a
+// closure would have to lend it the table that is written, and its clauses would be longer than the loops.
 ghost use Rattle.std.specs.Prelude.{◌≡◌, ◌+◌, ◌<◌};
 ghost use Rattle.tables.specs.Tables.{tables};
 ghost use Rattle.splitting.specs.Internal.InPlace.{SmallTwins, SmallEdges, Housed, Standing, with_next_twins, with_next_verts, with_next_edges, with_next_level};

@@ -1,11 +1,10 @@
 -- Which check of writing is given, as the code goes. Assumes nothing.
---     shape_given, limit_given, corner-given, points_given     1, 2, 4, and where none of them is given 8
---     checked_ready, in_range                                  what they leave where all are passed
---     level-refused, file-short, file_roomy                    all of them, and then 9
---     stl_ready                                                what is left where writing is done
+--     shape_given, limit_given, corners_left     1, 2, and where neither is given 4 and 8
+--     checked_ready, in_range                    what they leave where all are passed
+--     file-short, file_roomy                     then 9
+--     stl_ready                                  what is left where writing is done
 use Prim.Native.Nat.{ℕ, zero, suc, ◌+◌, ◌*◌, ◌%◌, ◌≤◌, ◌<◌, zero-le, suc-le-suc}
-use mathlib.Core.Path.{◌≡◌, refl, sym, ◌∙◌}
-use mathlib.Core.Logic.{◌≢◌}
+use mathlib.Core.Path.{◌≡◌, refl}
 use mathlib.Core.Bool.{true, false, not}
 use mathlib.Core.List.{List, [], ◌∷◌}
 use native.Mathlib.Omega.{arith}
@@ -14,11 +13,9 @@ use lib.IntN.{ℤ, pos, nat_abs}
 use lib.ListN.{length, get_or}
 use borrow.Author.Tests.{eqb-true, eqb-false, lt-ltb, le-ltb, ltb-false, leb-false, not-false}
 use Rattle.laws.proofs.Tests.{or_false₃}
-use Rattle.halfedges.specs.declared.answer.Answer.{Answer}
 use Rattle.halfedges.specs.Cage.{F, cell}
-use Rattle.halfedges.specs.Refusals.{Verdict, DONE, SHAPE, LIMIT, VERTEX, POINT, ROOM, told, given, given_at, short, first}
-use Rattle.halfedges.proofs.Checks.{Clean, answered, passed_on, given_alone, first_more, first_stops, done_both, done_passes, done_nowhere}
-use Rattle.halfedges.proofs.Told.{zero_done}
+use Rattle.halfedges.specs.Refusals.{DONE, SHAPE, LIMIT, VERTEX, POINT, ROOM, given, given_at, short, first}
+use Rattle.halfedges.proofs.Checks.{Clean, passes_before, done_both, done_passes, done_nowhere}
 use Rattle.points.specs.Operations.{most_coordinate, vertices, unshaped, out_of_range, InRange}
 use Rattle.stl.specs.File.{stl_file}
 use Rattle.stl.specs.Writing.{longest, past_points, stl_checks, stl_verdict}
@@ -37,26 +34,10 @@ module _ (vert : List ℕ) (points : List ℤ) where
     unfolding stl_checks first given
     limit_given l = rw (s, lt-ltb longest (length vert) l)
 
-    module _ (l : length vert ≤ longest) where
-      placing : Verdict
-      placing = given_at (length vert) (past_points vert (vertices points)) VERTEX
-
-      ranging : Verdict
-      ranging = given_at (length points) (out_of_range points) POINT
-
-      rest : first (placing ∷ ranging ∷ []) ≡ first (stl_checks vert points)
-      unfolding stl_checks first given placing ranging
-      rest = rw (s, le-ltb longest (length vert) l)
-
-      -- a tells the check of the corners, and n is its number
-      module _ {a : Verdict} {n : ℕ} (e : a ≡ given_at (length vert) (past_points vert (vertices points)) VERTEX) (m : n ≡ a.number) where
-        pub corner-given : n ≢ 0 → a ≡ first (stl_checks vert points)
-        unfolding placing
-        corner-given r = answered e m (ranging ∷ []) r ∙ rest
-
-        pub points_given : n ≡ 0 → given_at (length points) (out_of_range points) POINT ≡ first (stl_checks vert points)
-        unfolding placing ranging
-        points_given z = given_alone (length points) (out_of_range points) POINT (λ k. omega arith) ∙ passed_on e m (ranging ∷ []) z ∙ rest
+    pub corners_left : length vert ≤ longest
+        → first (given_at (length vert) (past_points vert (vertices points)) VERTEX ∷ given_at (length points) (out_of_range points) POINT ∷ []) ≡ first (stl_checks vert points)
+    unfolding stl_checks first given
+    corners_left l = rw (s, le-ltb longest (length vert) l)
 
 -- ---- what they leave
 
@@ -99,24 +80,19 @@ checked_ready vert points e =
 -- ---- 9
 
 module _ (vert : List ℕ) (points : List ℤ) (lent : List ℕ) where
-  -- a tells the first of the others, and n is its number
-  module _ (a : Answer) {n : ℕ} (e : told a ≡ first (stl_checks vert points)) (m : n ≡ (told a).number) where
-    pub level-refused : n ≢ 0 → told a ≡ stl_verdict vert points lent
+  -- the others are done
+  module _ (e : DONE ≡ first (stl_checks vert points)) where
+    room_left : first (short 6 (length (stl_file vert points)) (length lent) ∷ []) ≡ stl_verdict vert points lent
     unfolding stl_verdict
-    level-refused r = first_stops _ _ (told a) e (λ z. r (m ∙ z))
+    room_left = passes_before (stl_checks vert points) _ e
 
-    module _ (z : n ≡ 0) where
-      room_left : first (short 6 (length (stl_file vert points)) (length lent) ∷ []) ≡ stl_verdict vert points lent
-      unfolding stl_verdict
-      room_left = sym (first_more (stl_checks vert points) _ (sym e ∙ zero_done a (sym m ∙ z)))
+    pub file-short : length lent < 84 + 50 * F (length vert) → ROOM 6 ≡ stl_verdict vert points lent
+    unfolding short given first
+    file-short l = rw (lt-ltb (length lent) (length (stl_file vert points)) (omega (arith, file-length vert points))) at room_left
 
-      pub file-short : length lent < 84 + 50 * F (length vert) → ROOM 6 ≡ stl_verdict vert points lent
-      unfolding short given first
-      file-short l = rw (lt-ltb (length lent) (length (stl_file vert points)) (omega (arith, file-length vert points))) at room_left
-
-      pub file_roomy : 84 + 50 * F (length vert) ≤ length lent → DONE ≡ stl_verdict vert points lent
-      unfolding short given first
-      file_roomy l = rw (le-ltb (length lent) (length (stl_file vert points)) (omega (arith, file-length vert points))) at room_left
+    pub file_roomy : 84 + 50 * F (length vert) ≤ length lent → DONE ≡ stl_verdict vert points lent
+    unfolding short given first
+    file_roomy l = rw (le-ltb (length lent) (length (stl_file vert points)) (omega (arith, file-length vert points))) at room_left
 
   pub stl_ready : stl_verdict vert points lent ≡ DONE → Ready vert points × (84 + 50 * F (length vert) ≤ length lent)
   unfolding stl_verdict short

@@ -5,7 +5,7 @@ ghost use Rattle.halfedges.specs.Refusals.{VERTEX, told, given_at, first};
 ghost use Rattle.stl.specs.Writing.{past_points, stl_checks, stl_verdict};
 
 use crate::{facets, file};
-use halfedges::answer::Answer;
+use halfedges::refusal::Refusal;
 
 // What a table has at most: the halfedges of the largest cage at the deepest level.
 const LONGEST: usize = 12582912;
@@ -34,56 +34,48 @@ fn highest(vert: &[u32]) -> u32
 }
 
 // Refusal 4, where some corner is past the points: the lowest halfedge that has one.
-fn find_past(vert: &[u32], vertices: usize) -> Answer
+fn find_past(vert: &[u32], vertices: usize) -> Result<(), Refusal>
     ensures { told result ≡ given_at (length vert.now) (past_points vert.now vertices) VERTEX }
 {
-    let mut halfedge = 0;
-    while halfedge < vert.len() {
+    for halfedge in 0..vert.len() {
         if vertices <= vert[halfedge] as usize {
-            return Answer::Vertex(halfedge);
+            return Err(Refusal::Vertex(halfedge));
         }
-        halfedge += 1;
     }
-    Answer::Done
+    Ok(())
 }
 
 // Refusal 4. Most tables are passed by their highest corner alone.
-fn check_corners(vert: &[u32], vertices: usize) -> Answer
+fn check_corners(vert: &[u32], vertices: usize) -> Result<(), Refusal>
     ensures { told result ≡ given_at (length vert.now) (past_points vert.now vertices) VERTEX }
 {
     if (highest(vert) as usize) < vertices {
-        return Answer::Done;
+        return Ok(());
     }
     find_past(vert, vertices)
 }
 
 // Refusals 1, 2, 4 and 8, or done.
-fn check_level(vert: &[u32], points: &[i32]) -> Answer
+fn check_level(vert: &[u32], points: &[i32]) -> Result<(), Refusal>
     ensures { told result ≡ first (stl_checks vert.now points.now) }
 {
     if cage::unshaped(vert, points) {
-        return Answer::Shape;
+        return Err(Refusal::Shape);
     }
     if LONGEST < vert.len() {
-        return Answer::Limit;
+        return Err(Refusal::Limit);
     }
-    let placed = check_corners(vert, points.len() / 3);
-    if placed.number() != 0 {
-        return placed;
-    }
+    check_corners(vert, points.len() / 3)?;
     cage::check_points(points)
 }
 
 // Refusals 1, 2, 4, 8 and then 9, or done.
-pub fn refusal(vert: &[u32], points: &[i32], file: &[u8]) -> Answer
+pub fn check(vert: &[u32], points: &[i32], file: &[u8]) -> Result<(), Refusal>
     ensures { told result ≡ stl_verdict vert.now points.now file.now }
 {
-    let answer = check_level(vert, points);
-    if answer.number() != 0 {
-        return answer;
-    }
+    check_level(vert, points)?;
     if file.len() < file::FACETS + facets::FACET * (vert.len() / 3) {
-        return Answer::Room(6);
+        return Err(Refusal::Room(6));
     }
-    Answer::Done
+    Ok(())
 }

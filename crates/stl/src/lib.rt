@@ -5,21 +5,17 @@ ghost use Rattle.std.specs.Prelude.{◌≡◌};
 ghost use Rattle.writing.specs.Writing.{wrote};
 ghost use Rattle.stl.specs.Writing.{write_stl};
 
-use writing::Writing;
+use halfedges::refusal::Refusal;
 
 mod checks;
 pub mod facets;
 pub mod file;
 
-// Writes any level's STL into a lent file: all checks first, then the bytes.
-pub fn write_stl(vert: &[u32], points: &[i32], file: &mut [u8]) -> Writing
+// Writes any level's STL into a lent file: all checks first, then the bytes. Answers the file's length.
+pub fn write_stl(vert: &[u32], points: &[i32], file: &mut [u8]) -> Result<usize, Refusal>
     ensures { let after = write_stl vert.now points.now file.old in
         (wrote result ≡ after.answer) × (file.new ≡ after.file) }
 {
-    let answer = checks::refusal(vert, points, file);
-    if answer.number() != 0 {
-        return Writing { answer, length: 0 };
-    }
-    let length = file::put_file(file, vert, points);
-    Writing { answer, length }
+    checks::check(vert, points, file)?;
+    Ok(file::put_file(file, vert, points))
 }

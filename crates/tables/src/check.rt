@@ -1,12 +1,12 @@
 // The check 1 to 7 of the tables, in number order: each rule runs on what the ones before it left.
 ghost use Rattle.std.specs.Prelude.{◌≡◌};
 ghost use Rattle.halfedges.specs.Refusals.{told, first};
-ghost use Rattle.tables.specs.Tables.{tables};
+ghost use Rattle.tables.specs.Tables.{held};
 ghost use Rattle.tables.specs.Rules.{misshapen as rules_misshapen};
 ghost use Rattle.tables.specs.Check.{pairing, placing, table_checks, returned, check_tables, numbers, checked};
 ghost use Rattle.tables.specs.Internal.Relied.{ForPlaces};
 
-use crate::{fans, rules};
+use crate::{Tables, fans, rules};
 use halfedges::refusal::Refusal;
 use halfedges::table::HalfedgeTable;
 
@@ -18,19 +18,6 @@ pub struct Checked {
     pub triangles: usize,
     pub vertices: usize,
     pub borders: usize,
-}
-
-// The check 1 to 7 of any tables.
-pub fn check_tables(
-    twin: &[u32],
-    vert: &[u32],
-    edge: &[u32],
-    vertices: usize,
-) -> Result<Checked, Refusal>
-    ensures { checked result ≡ check_tables (tables twin.now vert.now edge.now) vertices }
-{
-    check_for_depth(twin, vert, edge, vertices, 0)?;
-    Ok(found(twin, vertices))
 }
 
 // H, E, F, V and B of tables that pass.
@@ -46,71 +33,64 @@ pub fn found(twin: &[u32], vertices: usize) -> Checked
     }
 }
 
-// Checks 1 to 7 of any tables, where the depth's limit counts too.
-pub fn check_for_depth(
-    twin: &[u32],
-    vert: &[u32],
-    edge: &[u32],
-    vertices: usize,
-    depth: usize,
-) -> Result<(), Refusal>
-    ensures { told result ≡ first (table_checks (tables twin.now vert.now edge.now) vertices depth) }
-{
-    check_pairs(twin, vert, edge, vertices, depth)?;
-    check_places(twin, vert, edge, vertices)?;
-    fans::check_fans(twin, vert, vertices)
-}
+impl Tables<'_> {
+    // The check 1 to 7 of any tables.
+    pub fn check(&self, vertices: usize) -> Result<Checked, Refusal>
+        ensures { checked result ≡ check_tables (held self.now) vertices }
+    {
+        self.check_for_depth(vertices, 0)?;
+        Ok(found(self.twin, vertices))
+    }
 
-// Checks 1 to 3 of any tables, where the depth's limit counts too.
-pub fn check_pairs(
-    twin: &[u32],
-    vert: &[u32],
-    edge: &[u32],
-    vertices: usize,
-    depth: usize,
-) -> Result<(), Refusal>
-    ensures { told result ≡ first (pairing (tables twin.now vert.now edge.now) vertices depth) }
-{
-    if misshapen(twin, vert, edge) {
-        return Err(Refusal::Shape);
+    // Checks 1 to 7 of any tables, where the depth's limit counts too.
+    pub fn check_for_depth(&self, vertices: usize, depth: usize) -> Result<(), Refusal>
+        ensures { told result ≡ first (table_checks (held self.now) vertices depth) }
+    {
+        self.check_pairs(vertices, depth)?;
+        self.check_places(vertices)?;
+        fans::check_fans(self.twin, self.vert, vertices)
     }
-    let table = HalfedgeTable {
-        halfedges: twin.len(),
-        edges: 0,
-        vertices,
-    };
-    if table.above_limit(depth) {
-        return Err(Refusal::Limit);
-    }
-    rules::check_twins(twin)
-}
 
-fn misshapen(twin: &[u32], vert: &[u32], edge: &[u32]) -> bool
-    ensures { result ≡ rules_misshapen (tables twin.now vert.now edge.now) }
-{
-    if twin.len() == 0 {
-        return true;
+    // Checks 1 to 3 of any tables, where the depth's limit counts too.
+    pub fn check_pairs(&self, vertices: usize, depth: usize) -> Result<(), Refusal>
+        ensures { told result ≡ first (pairing (held self.now) vertices depth) }
+    {
+        if self.misshapen() {
+            return Err(Refusal::Shape);
+        }
+        let table = HalfedgeTable {
+            halfedges: self.twin.len(),
+            edges: 0,
+            vertices,
+        };
+        if table.above_limit(depth) {
+            return Err(Refusal::Limit);
+        }
+        rules::check_twins(self.twin)
     }
-    if twin.len() % 3 != 0 {
-        return true;
-    }
-    if vert.len() != twin.len() {
-        return true;
-    }
-    edge.len() != twin.len()
-}
 
-// Rules 4 to 6 of tables that keep 1 to 3.
-pub fn check_places(
-    twin: &[u32],
-    vert: &[u32],
-    edge: &[u32],
-    vertices: usize,
-) -> Result<(), Refusal>
-    requires { ForPlaces (tables twin.now vert.now edge.now) vertices }
-    ensures { told result ≡ first (placing (tables twin.now vert.now edge.now) vertices) }
-{
-    rules::check_vertices(twin, vert, vertices)?;
-    rules::check_uses(vert, vertices)?;
-    rules::check_edges(twin, edge)
+    fn misshapen(&self) -> bool
+        ensures { result ≡ rules_misshapen (held self.now) }
+    {
+        if self.twin.len() == 0 {
+            return true;
+        }
+        if self.twin.len() % 3 != 0 {
+            return true;
+        }
+        if self.vert.len() != self.twin.len() {
+            return true;
+        }
+        self.edge.len() != self.twin.len()
+    }
+
+    // Rules 4 to 6 of tables that keep 1 to 3.
+    pub fn check_places(&self, vertices: usize) -> Result<(), Refusal>
+        requires { ForPlaces (held self.now) vertices }
+        ensures { told result ≡ first (placing (held self.now) vertices) }
+    {
+        rules::check_vertices(self.twin, self.vert, vertices)?;
+        rules::check_uses(self.vert, vertices)?;
+        rules::check_edges(self.twin, self.edge)
+    }
 }

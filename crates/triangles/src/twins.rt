@@ -96,6 +96,7 @@ fn join_corners(
     ensures { Joined vert.now ends.now vertex 0 place twin.old result twin.new }
 {
     let mut lowest = place;
+    // A walk along links, which no range counts.
     let mut end = head;
     while end != 0 {
         let halfedge = end - 1;

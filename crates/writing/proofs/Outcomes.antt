@@ -1,33 +1,29 @@
--- What a writer leaves, by the answer that tells its verdict (`refused_left`, `told_done`, `done_left`), and writing a cage's file that is done
--- (`write_done`). Assumes nothing.
+-- What a writer leaves, by what its checks tell (`refused_left`, `done_left`), and writing a cage's file that is done (`write_done`).
+-- Assumes nothing.
 use Prim.Native.Nat.{ℕ}
-use mathlib.Core.Path.{◌≡◌, refl, sym, ap, ◌∙◌}
-use mathlib.Core.Logic.{◌≢◌}
+use mathlib.Core.Path.{◌≡◌, refl}
 use mathlib.Core.List.{List}
 use lib.ListN.{length}
 use borrow.Author.Tests.{ne_eqb}
 use Rattle.laws.specs.Parts.{in_front}
-use Rattle.halfedges.specs.declared.answer.Answer.{Answer}
-use Rattle.halfedges.specs.Refusals.{Verdict, DONE, told, said, filled}
-use Rattle.halfedges.proofs.Told.{zero_done}
+use Rattle.halfedges.specs.declared.refusal.Refusal.{Refusal}
+use Rattle.halfedges.specs.Refusals.{Verdict, DONE, refused, said, filled}
+use Rattle.halfedges.proofs.Told.{refused_number}
+use Rattle.halfedges.proofs.Checks.{said_refused, said_done}
 use Rattle.cagefile.specs.declared.fields.Form.{Form}
 use Rattle.cagefile.specs.Fields.{Cage, file}
 use Rattle.writing.specs.Writing.{write_verdict, written, write_file}
 
--- a tells the verdict v, and n is its number
-module _ (a : Answer) {v : Verdict} {n : ℕ} (e : told a ≡ v) (m : n ≡ (told a).number) where
-  pub told_done : n ≡ 0 → v ≡ DONE
-  told_done z = sym e ∙ zero_done a (sym m ∙ z)
+-- the checks tell the verdict v
+module _ {v : Verdict} (bytes lent : List ℕ) where
+  pub refused_left : (r : Refusal) → refused r ≡ v → (record { verdict = refused r; values = 0 } ≡ (written v bytes lent).answer) × (lent ≡ (written v bytes lent).file)
+  unfolding written filled
+  refused_left r e = (said_refused (length bytes) 0 r e, rw (← e, ne_eqb (refused r).number 0 (refused_number r)) refl)
 
-  module _ (bytes lent : List ℕ) where
-    pub refused_left : n ≢ 0 → (record { verdict = told a; values = 0 } ≡ (written v bytes lent).answer) × (lent ≡ (written v bytes lent).file)
-    unfolding written said filled
-    refused_left r = rw (← e, ne_eqb (told a).number 0 (λ z. r (m ∙ z))) (refl, refl)
-
-    pub done_left : n ≡ 0 → {size : ℕ} {after : List ℕ} → size ≡ length bytes → after ≡ in_front bytes lent
-        → (record { verdict = told a; values = size } ≡ (written v bytes lent).answer) × (after ≡ (written v bytes lent).file)
-    unfolding written said filled
-    done_left z s f = rw (← e, zero_done a (sym m ∙ z)) (ap (λ k. record { verdict = DONE; values = k }) s, f)
+  pub done_left : DONE ≡ v → {size : ℕ} {after : List ℕ} → size ≡ length bytes → after ≡ in_front bytes lent
+      → (record { verdict = DONE; values = size } ≡ (written v bytes lent).answer) × (after ≡ (written v bytes lent).file)
+  unfolding written filled
+  done_left e s f = (said_done (length bytes) 0 e s, rw (← e) f)
 
 -- what writing leaves where it is done
 pub write_done : (form : Form) (w : Cage) (lent : List ℕ) → write_verdict form w lent ≡ DONE

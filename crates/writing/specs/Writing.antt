@@ -1,6 +1,7 @@
 -- Document 01, "The cage file", and document 02, §7 "Form 2 files": writing.
-use Rattle.std.specs.Prelude.{ℕ, List, [], ◌∷◌, ◌++◌, ℤ, length}
-use Rattle.halfedges.specs.Refusals.{Verdict, told, short, first, Said, said, filled}
+use Rattle.std.specs.Prelude.{ℕ, List, [], ◌∷◌, ◌++◌, ℤ, Result, length}
+use Rattle.halfedges.specs.declared.refusal.Refusal.{Refusal}
+use Rattle.halfedges.specs.Refusals.{Verdict, short, first, Said, said, answered, filled}
 use Rattle.tables.specs.Tables.{Tables}
 use Rattle.creases.specs.Creases.{no_creases}
 use Rattle.points.specs.declared.weights.Weight.TheVariants.{Short}
@@ -8,7 +9,6 @@ use Rattle.points.specs.Operations.{cage_checks, creased_checks}
 use Rattle.cagefile.specs.declared.fields.Form.{Form}
 use Rattle.cagefile.specs.declared.fields.Form.TheVariants.{One, Two}
 use Rattle.cagefile.specs.Fields.{Cage, file}
-use Rattle.writing.specs.declared.Writing.{Writing}
 
 -- "Writing form 1 takes no creases and no weight": a cage that counts as all zeros
 abbrev pub plain : Tables → List ℤ → Cage
@@ -35,5 +35,5 @@ unfoldable pub write_file : Form → Cage → List ℕ → Written
 write_file form w lent = written (write_verdict form w lent) (file form w) lent
 
 -- what the code's answer says
-abbrev pub wrote : Writing → Said ℕ
-wrote r = record { verdict = told r.answer; values = r.length }
+abbrev pub wrote : Result ℕ Refusal → Said ℕ
+wrote = answered (λ length. length) 0

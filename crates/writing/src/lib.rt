@@ -15,15 +15,8 @@ ghost use Rattle.writing.specs.Writing.{plain, write_verdict, write_file, wrote}
 
 use cagefile::fields::Form;
 use cagefile::{fields, numbers};
-use halfedges::answer::Answer;
+use halfedges::refusal::Refusal;
 use points::weights::Weight;
-
-// The answer of writing: the file's length where it is done, zero where it refuses.
-#[derive(Clone, Copy)]
-pub struct Writing {
-    pub answer: Answer,
-    pub length: usize,
-}
 
 // A field's head: its tag, and how many bytes follow it.
 fn put_head(file: &mut [u8], at: usize, tag: u8, size: u32)
@@ -206,23 +199,26 @@ fn write_creased(
     write_end(&mut *file, end_at)
 }
 
-// Of form 1: checks 1 to 8, and then the room.
-fn plain_refusal(twin: &[u32], vert: &[u32], edge: &[u32], points: &[i32], file: &[u8]) -> Answer
+// Checks 1 to 8 of a cage for form 1, and then the room.
+fn check_plain(
+    twin: &[u32],
+    vert: &[u32],
+    edge: &[u32],
+    points: &[i32],
+    file: &[u8],
+) -> Result<(), Refusal>
     ensures { told result ≡ write_verdict One (plain (tables twin.now vert.now edge.now) points.now)
         file.now }
 {
-    let answer = cage::verdict(twin, vert, edge, points);
-    if answer.number() != 0 {
-        return answer;
-    }
+    cage::verdict(twin, vert, edge, points)?;
     if file.len() < 24 + 6 * twin.len() + 12 * (points.len() / 3) {
-        return Answer::Room(5);
+        return Err(Refusal::Room(5));
     }
-    Answer::Done
+    Ok(())
 }
 
-// Of form 2: checks 1 to 8 and 15, and then the room.
-fn creased_refusal(
+// Checks 1 to 8 and 15 of a cage for form 2, and then the room.
+fn check_creased(
     twin: &[u32],
     vert: &[u32],
     edge: &[u32],
@@ -230,34 +226,33 @@ fn creased_refusal(
     creases: &[u8],
     weight: Weight,
     file: &[u8],
-) -> Answer
+) -> Result<(), Refusal>
     ensures { let c = tables twin.now vert.now edge.now in
         told result ≡ write_verdict Two
         (record { connectivity = c; points = points.now; creases = creases.now; weight = weight })
         file.now }
 {
-    let answer = cage::check_for_refining(twin, vert, edge, points, creases, 0, Weight::Short);
-    if answer.number() != 0 {
-        return answer;
-    }
+    cage::check_for_refining(twin, vert, edge, points, creases, 0, Weight::Short)?;
     if file.len() < 31 + 6 * twin.len() + 12 * (points.len() / 3) + creases.len() {
-        return Answer::Room(5);
+        return Err(Refusal::Room(5));
     }
-    Answer::Done
+    Ok(())
 }
 
-// Writes a cage's file of form 1 into a lent file: all checks first, then the fields.
-pub fn write(twin: &[u32], vert: &[u32], edge: &[u32], points: &[i32], file: &mut [u8]) -> Writing
+// Writes a cage's file of form 1 into a lent file: all checks first, then the fields. Answers the file's length.
+pub fn write(
+    twin: &[u32],
+    vert: &[u32],
+    edge: &[u32],
+    points: &[i32],
+    file: &mut [u8],
+) -> Result<usize, Refusal>
     ensures { let c = tables twin.now vert.now edge.now in
         let after = write_file One (plain c points.now) file.old in
         (wrote result ≡ after.answer) × (file.new ≡ after.file) }
 {
-    let answer = plain_refusal(twin, vert, edge, points, file);
-    if answer.number() != 0 {
-        return Writing { answer, length: 0 };
-    }
-    let length = write_plain(file, twin, vert, edge, points);
-    Writing { answer, length }
+    check_plain(twin, vert, edge, points, file)?;
+    Ok(write_plain(file, twin, vert, edge, points))
 }
 
 // Of form 2, with creases and a weight.
@@ -269,17 +264,13 @@ pub fn write_form_2(
     creases: &[u8],
     weight: Weight,
     file: &mut [u8],
-) -> Writing
+) -> Result<usize, Refusal>
     ensures { let c = tables twin.now vert.now edge.now in
         let after = write_file Two
         (record { connectivity = c; points = points.now; creases = creases.now; weight = weight })
         file.old in
         (wrote result ≡ after.answer) × (file.new ≡ after.file) }
 {
-    let answer = creased_refusal(twin, vert, edge, points, creases, weight, file);
-    if answer.number() != 0 {
-        return Writing { answer, length: 0 };
-    }
-    let length = write_creased(file, twin, vert, edge, points, creases, weight);
-    Writing { answer, length }
+    check_creased(twin, vert, edge, points, creases, weight, file)?;
+    Ok(write_creased(file, twin, vert, edge, points, creases, weight))
 }

@@ -11,10 +11,10 @@ returns-in_err-check_asked c = rw (handed_on c.from_residual.ensures) (said_refu
 
 pub climb-requires : goal.climb-requires
 climb-requires c = (
-  climbable _ _ _ _ c.in_ok-check_asked.ensures c.counts_of-cage.ensures,
-  in_level _ _ _ _ c.in_ok-check_asked.ensures c.counts_of-cage.ensures,
+  climbable _ _ _ _ c.in_ok-check_asked.ensures c.counts_of-counts.ensures,
+  in_level _ _ _ _ c.in_ok-check_asked.ensures c.counts_of-counts.ensures,
 )
 
 pub returns : goal.returns
 unfolding halfedge_question
-returns c = said_done _ _ c.in_ok-check_asked.ensures (rw c.counts_of-cage.ensures at c.climb.ensures)
+returns c = said_done _ _ c.in_ok-check_asked.ensures (rw c.counts_of-counts.ensures at c.climb.ensures)

@@ -3,7 +3,6 @@ use Rattle.std.specs.Prelude.{ℕ, ◌*◌, ◌≡◌, List, ℤ, length, take}
 use Rattle.laws.specs.Parts.{in_front}
 use Rattle.halfedges.specs.Cage.{most_halfedges, most_vertices}
 use Rattle.tables.specs.Tables.{Tables}
-use Rattle.points.specs.Weights.{weight_number}
 use Rattle.reading.specs.declared.Reading.{Reading}
 use Rattle.filechecks.specs.Contents.{HIn, VIn, EIn, twins_in, verts_in, edges_in, creases_read, points_in, weight_in}
 use Rattle.filechecks.specs.Internal.Sound.{Sound}
@@ -23,7 +22,7 @@ pub record Fronts (f : List ℕ) (r : Reading) (now : Tables) (nowPoints : List 
   pub halfedges : r.halfedges ≡ HIn f
   pub vertices : r.vertices ≡ VIn f
   pub edges : r.edges ≡ EIn f
-  pub weight : r.weight ≡ weight_number (weight_in f)
+  pub weight : r.weight ≡ weight_in f
   pub twin : take r.halfedges now.twin ≡ twins_in f
   pub vert : take r.halfedges now.vert ≡ verts_in f
   pub edge : take r.halfedges now.edge ≡ edges_in f

@@ -1,22 +1,18 @@
--- `write_stl` answers its checks, and else writes the file.
-use Rattle.writing.proofs.Outcomes.{told_done, refused_left, done_left}
+-- `write_stl` goes through its checks, and then writes the file.
+use mathlib.Core.Path.{sym}
+use Rattle.halfedges.proofs.Told.{handed_on}
+use Rattle.writing.proofs.Outcomes.{refused_left, done_left}
 use Rattle.stl.specs.Writing.{write_stl}
 use Rattle.stl.proofs.Verdict.{stl_ready}
 use Rattle.stl.proofs.write_stl.Goals as goal
 
-pub returns-then-number-ne0 : goal.returns-then-number-ne0
+pub returns-in_err-check : goal.returns-in_err-check
 unfolding write_stl
-returns-then-number-ne0 c =
-    let r = c.refusal-answer in
-    refused_left r.result r.ensures c.number.ensures _ _ c.if-number-ne0.true
+returns-in_err-check c = rw (handed_on c.from_residual.ensures) (refused_left _ _ _ c.in_err-check.ensures)
 
-pub put_file-length-requires : goal.put_file-length-requires
-put_file-length-requires c =
-    let r = c.refusal-answer in
-    stl_ready _ _ _ (told_done r.result r.ensures c.number.ensures c.if-number-ne0.false)
+pub put_file-requires : goal.put_file-requires
+put_file-requires c = stl_ready _ _ _ (sym c.in_ok-check.ensures)
 
 pub returns : goal.returns
 unfolding write_stl
-returns c =
-    let r = c.refusal-answer in
-    done_left r.result r.ensures c.number.ensures _ _ c.if-number-ne0.false c.put_file-length.ensures.0 c.put_file-length.ensures.1
+returns c = done_left _ _ c.in_ok-check.ensures c.put_file.ensures.0 c.put_file.ensures.1

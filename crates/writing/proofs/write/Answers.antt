@@ -1,21 +1,17 @@
--- `write` answers its checks, and else writes the fields.
+-- `write` goes through its checks, and then writes the fields.
+use mathlib.Core.Path.{sym}
+use Rattle.halfedges.proofs.Told.{handed_on}
 use Rattle.writing.specs.Writing.{write_file}
-use Rattle.writing.proofs.Outcomes.{told_done, refused_left, done_left}
+use Rattle.writing.proofs.Outcomes.{refused_left, done_left}
 use Rattle.writing.proofs.write.Goals as goal
 
-pub returns-then-number-ne0 : goal.returns-then-number-ne0
+pub returns-in_err-check_plain : goal.returns-in_err-check_plain
 unfolding write_file
-returns-then-number-ne0 c =
-    let r = c.plain_refusal-answer in
-    refused_left r.result r.ensures c.number.ensures _ _ c.if-number-ne0.true
+returns-in_err-check_plain c = rw (handed_on c.from_residual.ensures) (refused_left _ _ _ c.in_err-check_plain.ensures)
 
-pub write_plain-length-requires : goal.write_plain-length-requires
-write_plain-length-requires c =
-    let r = c.plain_refusal-answer in
-    told_done r.result r.ensures c.number.ensures c.if-number-ne0.false
+pub write_plain-requires : goal.write_plain-requires
+write_plain-requires c = sym c.in_ok-check_plain.ensures
 
 pub returns : goal.returns
 unfolding write_file
-returns c =
-    let r = c.plain_refusal-answer in
-    done_left r.result r.ensures c.number.ensures _ _ c.if-number-ne0.false c.write_plain-length.ensures.0 c.write_plain-length.ensures.1
+returns c = done_left _ _ c.in_ok-check_plain.ensures c.write_plain.ensures.0 c.write_plain.ensures.1

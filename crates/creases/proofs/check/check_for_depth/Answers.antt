@@ -4,7 +4,7 @@ use native.Mathlib.Omega.{arith}
 use Rattle.halfedges.specs.Refusals.{FAN}
 use Rattle.halfedges.proofs.Told.{handed_on}
 use Rattle.halfedges.proofs.Checks.{stops, passes, stops_before, passes_before, given_alone}
-use Rattle.tables.specs.Tables.{tables}
+use Rattle.tables.specs.Tables.{held}
 use Rattle.tables.specs.Internal.Relied.{ForPlaces}
 use Rattle.tables.proofs.TableChecks.{for_places, for_fans}
 use Rattle.creases.proofs.CreaseChecks.{in_parts, length_stops, length_passes, for_creases}
@@ -12,7 +12,7 @@ use Rattle.creases.proofs.check.check_for_depth.Goals as goal
 use Rattle.creases.proofs.check.check_for_depth.Goals.{In_ok-check_pairs, Start}
 
 -- what 1 to 3 leave
-for_rest : (i : In_ok-check_pairs) → let s = (goal.at.In_ok-check_pairs i).Start in ForPlaces (tables s.args.twin.now s.args.vert.now s.args.edge.now) s.args.vertices
+for_rest : (i : In_ok-check_pairs) → let s = (goal.at.In_ok-check_pairs i).Start in ForPlaces (held s.args.cage.now) s.args.vertices
 for_rest i = for_places _ _ _ (sym i.in_ok-check_pairs.ensures)
 
 pub returns-in_err-check_pairs : goal.returns-in_err-check_pairs

@@ -11,8 +11,8 @@ unfolding refine_tables_verdict
 returns-in_err-check_for_depth c = rw (handed_on c.from_residual.ensures) (stops_before _ _ _ c.in_err-check_for_depth.ensures)
 
 pub short_levels-requires : goal.short_levels-requires
-short_levels-requires c = checks_granted _ _ _ c.in_ok-check_for_depth.ensures c.counts_of-of.ensures
+short_levels-requires c = checks_granted _ _ _ c.in_ok-check_for_depth.ensures c.counts_of.ensures
 
 pub returns : goal.returns
 unfolding refine_tables_verdict
-returns c = rw c.counts_of-of.ensures at c.short_levels.ensures ∙ passes_before _ _ c.in_ok-check_for_depth.ensures
+returns c = rw c.counts_of.ensures at c.short_levels.ensures ∙ passes_before _ _ c.in_ok-check_for_depth.ensures

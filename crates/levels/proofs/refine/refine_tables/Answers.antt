@@ -9,12 +9,12 @@ returns-in_err-plan c =
     record { result_value = rw (handed_on c.from_residual.ensures) r.0; edge_after = r.1 }
 
 pub fill-requires : goal.fill-requires
-fill-requires c = all_refinable _ _ _ _ c.in_ok-plan.ensures c.counts_of-of.ensures
+fill-requires c = all_refinable _ _ _ _ c.in_ok-plan.ensures c.counts_of-counts.ensures
 
 pub levels-requires : goal.levels-requires
-levels-requires c = all_granted _ _ _ _ c.in_ok-plan.ensures c.counts_of-of.ensures
+levels-requires c = all_granted _ _ _ _ c.in_ok-plan.ensures c.counts_of-counts.ensures
 
 pub returns : goal.returns
 returns c =
-    let ready = refine_done _ _ _ _ c.in_ok-plan.ensures c.counts_of-of.ensures c.levels.ensures c.fill.ensures in
+    let ready = refine_done _ _ _ _ c.in_ok-plan.ensures c.counts_of-counts.ensures c.levels.ensures c.fill.ensures in
     record { result_value = ready.0; edge_after = ready.1 }

@@ -4,18 +4,18 @@ use Rattle.halfedges.specs.Refusals.{given, short, first}
 use Rattle.levels.specs.Refining.{short_tables}
 use Rattle.levels.proofs.refine.short_table.Goals as goal
 
-pub returns-then-twin-room : goal.returns-then-twin-room
+pub returns-then-lent-room : goal.returns-then-lent-room
 unfolding short_tables short given first
-returns-then-twin-room c = simp (lt-ltb _ _ c.if-twin-room.true)
+returns-then-lent-room c = simp (lt-ltb _ _ c.if-lent-room.true)
 
-pub returns-then-vert-room : goal.returns-then-vert-room
+pub returns-then-lent-room-2 : goal.returns-then-lent-room-2
 unfolding short_tables short given first
-returns-then-vert-room c = simp (le-ltb _ _ c.if-twin-room.false, lt-ltb _ _ c.if-vert-room.true)
+returns-then-lent-room-2 c = simp (le-ltb _ _ c.if-lent-room.false, lt-ltb _ _ c.if-lent-room-2.true)
 
-pub returns-then-edge-room : goal.returns-then-edge-room
+pub returns-then-lent-room-3 : goal.returns-then-lent-room-3
 unfolding short_tables short given first
-returns-then-edge-room c = simp (le-ltb _ _ c.if-twin-room.false, le-ltb _ _ c.if-vert-room.false, lt-ltb _ _ c.if-edge-room.true)
+returns-then-lent-room-3 c = simp (le-ltb _ _ c.if-lent-room.false, le-ltb _ _ c.if-lent-room-2.false, lt-ltb _ _ c.if-lent-room-3.true)
 
 pub returns : goal.returns
 unfolding short_tables short given first
-returns c = simp (le-ltb _ _ c.if-twin-room.false, le-ltb _ _ c.if-vert-room.false, le-ltb _ _ c.if-edge-room.false)
+returns c = simp (le-ltb _ _ c.if-lent-room.false, le-ltb _ _ c.if-lent-room-2.false, le-ltb _ _ c.if-lent-room-3.false)

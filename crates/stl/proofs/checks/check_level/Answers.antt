@@ -1,27 +1,10 @@
 -- `check_level` goes through 1, 2, 4 and 8 in their order.
-use mathlib.Core.Path.{◌≡◌, sym, ◌∙◌}
-use mathlib.Core.Bool.{false}
-use mathlib.Core.List.{List}
-use Prim.Native.Nat.{ℕ}
-use lib.IntN.{ℤ}
-use Rattle.points.specs.Operations.{unshaped}
-use Rattle.stl.proofs.Verdict.{shape_given, limit_given, corner-given, points_given}
+use mathlib.Core.Path.{sym, ◌∙◌}
+use Rattle.halfedges.proofs.Told.{handed_on}
+use Rattle.halfedges.proofs.Checks.{stops, passes}
+use Rattle.cage.proofs.CageChecks.{points_last}
+use Rattle.stl.proofs.Verdict.{shape_given, limit_given, corners_left}
 use Rattle.stl.proofs.checks.check_level.Goals as goal
-use Rattle.stl.proofs.checks.check_level.Goals.{Else-vert-gt-LONGEST, Start}
-
--- where 1 and 2 are passed
-module _ (i : Else-vert-gt-LONGEST) where
-  abbrev start : Start
-  start = (goal.at.Else-vert-gt-LONGEST i).Start
-
-  abbrev vert : List ℕ
-  vert = start.args.vert.now
-
-  abbrev points : List ℤ
-  points = start.args.points.now
-
-  shape : unshaped vert points ≡ false
-  shape = sym i.unshaped.ensures ∙ i.if-unshaped.false
 
 pub returns-then-unshaped : goal.returns-then-unshaped
 returns-then-unshaped c = shape_given _ _ (sym c.unshaped.ensures ∙ c.if-unshaped.true)
@@ -29,11 +12,14 @@ returns-then-unshaped c = shape_given _ _ (sym c.unshaped.ensures ∙ c.if-unsha
 pub returns-then-vert-gt-LONGEST : goal.returns-then-vert-gt-LONGEST
 returns-then-vert-gt-LONGEST c = limit_given _ _ (sym c.unshaped.ensures ∙ c.if-unshaped.false) c.if-vert-gt-LONGEST.true
 
-pub returns-then-number-ne0 : goal.returns-then-number-ne0
-returns-then-number-ne0 c =
-    corner-given (vert (goal.at.returns-then-number-ne0 c).Else-vert-gt-LONGEST) (points (goal.at.returns-then-number-ne0 c).Else-vert-gt-LONGEST) (shape (goal.at.returns-then-number-ne0 c).Else-vert-gt-LONGEST) c.if-vert-gt-LONGEST.false c.check_corners-placed.ensures c.number.ensures c.if-number-ne0.true
+pub returns-in_err-check_corners : goal.returns-in_err-check_corners
+returns-in_err-check_corners c =
+    rw (handed_on c.from_residual.ensures)
+    (stops _ _ c.in_err-check_corners.ensures ∙ corners_left _ _ (sym c.unshaped.ensures ∙ c.if-unshaped.false) c.if-vert-gt-LONGEST.false)
 
 pub returns : goal.returns
 returns c =
     c.check_points.ensures
-    ∙ points_given (vert (goal.at.returns c).Else-vert-gt-LONGEST) (points (goal.at.returns c).Else-vert-gt-LONGEST) (shape (goal.at.returns c).Else-vert-gt-LONGEST) c.if-vert-gt-LONGEST.false c.check_corners-placed.ensures c.number.ensures c.if-number-ne0.false
+    ∙ points_last _
+    ∙ passes _ c.in_ok-check_corners.ensures
+    ∙ corners_left _ _ (sym c.unshaped.ensures ∙ c.if-unshaped.false) c.if-vert-gt-LONGEST.false
