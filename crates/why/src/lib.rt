@@ -3,11 +3,12 @@
 
 ghost use Rattle.std.specs.Prelude.{◌≡◌};
 ghost use Rattle.halfedges.specs.Refusals.{refused};
-ghost use Rattle.tables.specs.Tables.{tables};
+ghost use Rattle.tables.specs.Tables.{held};
 ghost use Rattle.clauses.specs.Clauses.{no_clause};
 ghost use Rattle.clauses.specs.Shown.{numbers};
 ghost use Rattle.why.specs.Why.{why_cage, reason, explains};
 
+use cage::Cage;
 use clauses::Clause;
 use halfedges::refusal::Refusal;
 
@@ -41,21 +42,14 @@ impl Why {
 }
 
 // Whether the cage in any tables is accepted, or why it is sent back.
-pub fn explain(
-    twin: &[u32],
-    vert: &[u32],
-    edge: &[u32],
-    points: &[i32],
-    creases: &[u8],
-) -> Result<(), Why>
-    ensures { explains result ≡ why_cage (tables twin.now vert.now edge.now)
-        creases.now points.now }
+pub fn explain(cage: &Cage) -> Result<(), Why>
+    ensures { explains result ≡ why_cage (held cage.now.tables) cage.now.creases.now cage.now.points.now }
 {
-    let refusal = match cage::check_creased(twin, vert, edge, points, creases) {
+    let refusal = match cage.check() {
         Ok(_) => return Ok(()),
         Err(refusal) => refusal,
     };
-    match clauses::clause_at(twin, vert, edge, points.len() / 3, refusal) {
+    match clauses::clause_at(&cage.tables, cage.vertices(), refusal) {
         Some(clause) => {
             let place = refusal.place();
             Err(Why::Broken { clause, place })
