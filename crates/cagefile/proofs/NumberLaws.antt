@@ -1,7 +1,6 @@
 -- The numbers of a payload, put and read back. Assumes nothing.
 --     u16_read, u32_read            what was put is read
 --     u16-put, u32-put              what is read is put
---     u32_four                      a number's four bytes
 --     as_twin_stored, stored_as_twin  65535 and the marker
 --     signed-twos, twos-signed      two's complement
 use Prim.Native.Nat.{ℕ, suc, ◌+◌, ◌-◌, ◌*◌, ◌/◌, ◌%◌, ◌≤◌, ◌<◌}
@@ -67,19 +66,6 @@ u32-put f b at l =
     ap₂ (λ x y. u16 x ++ u16 y) low high
     ∙ ap₂ ◌++◌ (u16-put f b at (omega arith)) (u16-put f b (at + 2) (omega arith) ∙ ap (take 2) (sym (drop-drop 2 at f)))
     ∙ sym (take-add 2 2 (drop at f))
-
-last_byte : (a b c : ℕ) → a ≡ 256 * b + c → a % 256 ≡ c % 256
-last_byte a b c e = omega arith
-
-top_byte : (a b : ℕ) → a ≡ b → a < 256 → a ≡ b % 256
-top_byte a b e l = omega arith
-
-pub u32_four : (n : ℕ) → n < 4294967296 → n % 256 ∷ n / 256 % 256 ∷ n / 65536 % 256 ∷ n / 16777216 ∷ [] ≡ u32 n
-u32_four n l =
-    let first : n % 256 ≡ n % 65536 % 256 = omega arith in
-    let second : n / 256 % 256 ≡ n % 65536 / 256 % 256 = last_byte (n / 256) (n / 65536) (n % 65536 / 256) (omega arith) in
-    let fourth : n / 16777216 ≡ n / 65536 / 256 % 256 = top_byte (n / 16777216) (n / 65536 / 256) (omega arith) (omega arith) in
-    rw (first, second, fourth)
 
 -- ---- no twin
 

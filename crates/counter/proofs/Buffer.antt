@@ -1,7 +1,6 @@
 -- A buffer that holds more than the longest question holds enough of any text: its bytes get the reply that the whole text gets
 -- (`front-counted`). Assumes nothing.
 use Prim.Native.Nat.{ℕ, ◌+◌, ◌≤◌, ◌<◌}
-use Rattle.std.specs.Prelude.{Option, None}
 use mathlib.Core.Path.{◌≡◌, refl, sym, ap, ◌∙◌}
 use mathlib.Core.List.{List}
 use native.Mathlib.Decide.{dec_lt}
@@ -10,7 +9,7 @@ use lib.ListN.{length, take}
 use lib.Seq.{take_all, length-take-le}
 use borrow.Author.Tests.{ne_eqb}
 use Rattle.text.specs.declared.numbers.Number.{Number}
-use Rattle.text.specs.declared.numbers.Number.TheVariants.{Missing, Found}
+use Rattle.std.specs.Prelude.{Option, Some, None}
 use Rattle.text.specs.Lines.{space, newline}
 use Rattle.text.specs.Numbers.{number_at}
 use Rattle.text.proofs.Numerals.{Soon, found_soon}
@@ -19,9 +18,9 @@ use Rattle.counter.specs.Counting.{with_number, asked, reply_to, count_reply}
 use Rattle.counter.specs.Internal.Buffer.{longest}
 
 -- a question that goes on where a number ends, wherever that is, is none
-unasked : (at : ℕ) (r : Number) (next : ℕ → ℕ → Option Question) → Soon at r → ((value i : ℕ) → i ≤ at + 21 → next value i ≡ None) → with_number r next ≡ None
-unasked at Missing next s f = refl
-unasked at (Found value i) next s f = f value i s
+unasked : (at : ℕ) (r : Option Number) (next : ℕ → ℕ → Option Question) → Soon at r → ((value i : ℕ) → i ≤ at + 21 → next value i ≡ None) → with_number r next ≡ None
+unasked at None next s f = refl
+unasked at (Some n) next s f = f n.value n.next s
 
 too_long : (text : List ℕ) → longest < length text → asked text ≡ None
 unfolding asked

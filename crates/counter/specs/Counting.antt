@@ -1,21 +1,20 @@
 -- Document 01, "One level to the next": the count question asked and answered as text.
-use Rattle.std.specs.Prelude.{ℕ, suc, cond, List, ◌++◌, Option, Some, None, eqb, length}
+use Rattle.std.specs.Prelude.{ℕ, suc, cond, List, ◌++◌, eqb, length, Option, Some, None}
 use Rattle.laws.specs.Below.{end_to_end}
 use Rattle.halfedges.specs.declared.table.HalfedgeTable.{HalfedgeTable}
 use Rattle.halfedges.specs.declared.table.Levels.{Levels}
 use Rattle.halfedges.specs.Refusals.{when_done}
 use Rattle.halfedges.specs.Counts.{count_question}
 use Rattle.text.specs.declared.numbers.Number.{Number}
-use Rattle.text.specs.declared.numbers.Number.TheVariants.{Missing, Found}
 use Rattle.text.specs.Lines.{ascii, space, newline, line, level_words, room_line}
 use Rattle.text.specs.Numbers.{number_at}
 use Rattle.text.specs.Replies.{Reply, answered, refused, misused}
 use Rattle.counter.specs.declared.question.Question.{Question}
 
 -- what a number and where the text goes on lead to
-abbrev pub with_number : Number → (ℕ → ℕ → Option Question) → Option Question
-with_number Missing next = None
-with_number (Found value at) next = next value at
+abbrev pub with_number : Option Number → (ℕ → ℕ → Option Question) → Option Question
+with_number None next = None
+with_number (Some number) next = next number.value number.next
 
 -- "H, E, V and a depth": four numbers on one line, one space between, and nothing after it
 unfoldable pub asked : List ℕ → Option Question
@@ -23,8 +22,7 @@ asked text =
     with_number (number_at text 0 space) (λ h i.
     with_number (number_at text i space) (λ e j.
     with_number (number_at text j space) (λ v k.
-    with_number (number_at text k newline) (λ depth end.
-    cond (eqb end (length text)) (Some (record { table = record { halfedges = h; edges = e; vertices = v }; depth = depth })) None))))
+    with_number (number_at text k newline) (λ depth end. cond (eqb end (length text)) (Some (record { table = record { halfedges = h; edges = e; vertices = v }; depth = depth })) None))))
 
 -- what is said where no question was asked
 abbrev pub usage : List ℕ
@@ -48,7 +46,7 @@ counting t depth =
 
 abbrev pub reply_to : Option Question → Reply
 reply_to None = misused usage
-reply_to (Some q) = counting q.table q.depth
+reply_to (Some question) = counting question.table question.depth
 
 -- what is said to any bytes
 unfoldable pub count_reply : List ℕ → Reply

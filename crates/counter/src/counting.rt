@@ -10,7 +10,7 @@ ghost use Rattle.counter.specs.Counting.{count_line, count_lines, counting, coun
 use crate::question;
 use crate::question::Question;
 use halfedges::table::Levels;
-use text::replies::Written;
+use text::replies::{Status, Written};
 use text::{lines, replies};
 
 // The reply to any bytes, its text at the front of out.
@@ -43,7 +43,7 @@ fn put_counting(out: &mut [u8], question: Question) -> Written
     let depth = question.depth;
     match question.table.count(depth) {
         Ok(levels) => Written {
-            status: replies::ANSWERED,
+            status: Status::Answered,
             length: put_levels(&mut *out, levels, depth),
         },
         Err(refusal) => replies::put_refusal(&mut *out, refusal),
@@ -71,15 +71,13 @@ fn put_lines(out: &mut [u8], levels: Levels, depth: usize) -> usize
     ensures { Put out.old 0 735 (end_to_end (suc depth) (count_line levels)) out.new result }
 {
     let mut at = 0;
-    let mut level = 0;
-    while level <= depth {
+    for level in 0..=depth {
         at = lines::put_counts(
             &mut *out,
             at,
             lines::counts_of(levels, level),
             lines::NEWLINE,
         );
-        level += 1;
     }
     at
 }

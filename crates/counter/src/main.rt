@@ -20,18 +20,14 @@ fn main(rt: HostRuntime) {
 fn count_input(rt: &HostRuntime, text: &mut [u8])
     requires { longest < length text.old }
 {
-    let read = streams::read(rt, &mut *text);
-    if read.failed {
-        return;
+    if let Some(length) = streams::read(rt, &mut *text) {
+        count(rt, &text[..length]);
     }
-    let length = read.length;
-    count(rt, &text[..length]);
 }
 
 // Says the reply to a text.
 fn count(rt: &HostRuntime, text: &[u8]) {
     let mut out = [0u8; 1024];
     let written = counting::count(text, &mut out);
-    let length = written.length;
-    streams::say(rt, &out[..length], written.status);
+    streams::say(rt, &out[..written.length], written.status);
 }

@@ -3,7 +3,6 @@ ghost use Rattle.std.specs.Prelude.{◌≡◌};
 ghost use Rattle.counter.specs.Counting.{asked};
 
 use halfedges::table::HalfedgeTable;
-use text::numbers::Number;
 use text::{lines, numbers};
 
 // H, E, V and a depth.
@@ -18,41 +17,20 @@ pub struct Question {
 pub fn ask(text: &[u8]) -> Option<Question>
     ensures { result ≡ asked text.now }
 {
-    let Number::Found {
-        value: halfedges,
-        next: edges_at,
-    } = numbers::number_at(text, 0, lines::SPACE)
-    else {
-        return None;
-    };
-    let Number::Found {
-        value: edges,
-        next: vertices_at,
-    } = numbers::number_at(text, edges_at, lines::SPACE)
-    else {
-        return None;
-    };
-    let Number::Found {
-        value: vertices,
-        next: depth_at,
-    } = numbers::number_at(text, vertices_at, lines::SPACE)
-    else {
-        return None;
-    };
-    let Number::Found {
-        value: depth,
-        next: end,
-    } = numbers::number_at(text, depth_at, lines::NEWLINE)
-    else {
-        return None;
-    };
-    if end != text.len() {
+    let halfedges = numbers::number_at(text, 0, lines::SPACE)?;
+    let edges = numbers::number_at(text, halfedges.next, lines::SPACE)?;
+    let vertices = numbers::number_at(text, edges.next, lines::SPACE)?;
+    let depth = numbers::number_at(text, vertices.next, lines::NEWLINE)?;
+    if depth.next != text.len() {
         return None;
     }
     let table = HalfedgeTable {
-        halfedges,
-        edges,
-        vertices,
+        halfedges: halfedges.value,
+        edges: edges.value,
+        vertices: vertices.value,
     };
-    Some(Question { table, depth })
+    Some(Question {
+        table,
+        depth: depth.value,
+    })
 }

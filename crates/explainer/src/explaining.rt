@@ -13,7 +13,7 @@ use halfedges::answer::Answer;
 use halfedges::table::HalfedgeTable;
 use tables::check::Checked;
 use text::replies;
-use text::replies::Written;
+use text::replies::{Status, Written};
 
 // The check of a file's cage, and the clause of its answer.
 #[derive(Clone, Copy)]
@@ -82,7 +82,7 @@ fn put_found(out: &mut [u8], finding: Finding) -> Written
     let clause = finding.clause;
     if answer.number() == 0 {
         return Written {
-            status: replies::ANSWERED,
+            status: Status::Answered,
             length: sentences::put_accepted(&mut *out, checked),
         };
     }
@@ -90,7 +90,7 @@ fn put_found(out: &mut [u8], finding: Finding) -> Written
         return replies::put_refusal(&mut *out, answer);
     }
     Written {
-        status: replies::REFUSED,
+        status: Status::Refused,
         length: sentences::put_because(&mut *out, answer, clause),
     }
 }

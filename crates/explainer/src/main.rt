@@ -19,18 +19,14 @@ fn main(rt: HostRuntime) {
 fn explain_input(rt: &HostRuntime, file: &mut [u8])
     requires { longest < length file.old }
 {
-    let read = streams::read(rt, &mut *file);
-    if read.failed {
-        return;
+    if let Some(length) = streams::read(rt, &mut *file) {
+        explain(rt, &file[..length]);
     }
-    let length = read.length;
-    explain(rt, &file[..length]);
 }
 
 // Says the reply to a file's bytes.
 fn explain(rt: &HostRuntime, file: &[u8]) {
     let mut out = [0u8; 2048];
     let written = explaining::explain(file, &mut out);
-    let length = written.length;
-    streams::say(rt, &out[..length], written.status);
+    streams::say(rt, &out[..written.length], written.status);
 }

@@ -18,6 +18,7 @@ use Rattle.tables.specs.declared.check.Checked.{Checked}
 use Rattle.tables.specs.Check.{returned, checked}
 use Rattle.filechecks.specs.Contents.{cage_in}
 use Rattle.filechecks.proofs.Lengths.{twins-length, verts_length, points_length}
+use Rattle.text.specs.declared.replies.Status.TheVariants.{Answered}
 use Rattle.text.specs.declared.replies.Written.{Written}
 use Rattle.text.specs.Replies.{refused}
 use Rattle.text.specs.Internal.Put.{Replied}
@@ -50,7 +51,7 @@ module _ (c : Checked) {before after : List ℕ} where
       }
 
   pub head-opening : (told c.answer).number ≡ 0 → after ≡ in_front (stl_head c.triangles) before
-      → Opening c before after (record { status = 0; length = 84; halfedges = c.halfedges; coordinates = 3 * c.vertices })
+      → Opening c before after (record { status = Answered; length = 84; halfedges = c.halfedges; coordinates = 3 * c.vertices })
   unfolding opening_of
   head-opening z p =
       let e = eq-eqb (told c.answer).number 0 z in

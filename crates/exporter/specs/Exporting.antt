@@ -6,7 +6,7 @@ use Rattle.halfedges.specs.Cage.{F}
 use Rattle.halfedges.specs.Refusals.{when_done}
 use Rattle.tables.specs.Tables.{Tables}
 use Rattle.filechecks.specs.Contents.{cage_in}
-use Rattle.text.specs.Replies.{Reply, refused}
+use Rattle.text.specs.Replies.{Reply, refused, status_number}
 use Rattle.intake.specs.Intake.{check_file, file_reply}
 use Rattle.stl.specs.File.{facet_at, stl_head, stl_file}
 use Rattle.exporter.specs.declared.exporting.Opened.{Opened}
@@ -39,7 +39,7 @@ facets_out f = end_to_end (F (length (corners_out f))) (facet_at (corners_out f)
 -- the opening stands in front of what the lent text held, and VERT and points of the facets at the fronts of their tables; its length,
 -- the status and the lengths of both are told
 pub record Opens (f before after vert : List ℕ) (points : List ℤ) (told : Opened) : Type 0 where
-  pub status : told.status ≡ (exporting f).status
+  pub status : status_number told.status ≡ (exporting f).status
   pub text : after ≡ in_front (opening f) before
   pub ends : told.length ≡ length (opening f)
   pub corners : take told.halfedges vert ≡ corners_out f

@@ -11,11 +11,12 @@ use halfedges::table::HalfedgeTable;
 use stl::file;
 use tables::check::Checked;
 use text::replies;
+use text::replies::Status;
 
 // The status, the length of the opening, and how many cells of VERT and of the points the facets are made from.
 #[derive(Clone, Copy)]
 pub struct Opened {
-    pub status: usize,
+    pub status: Status,
     pub length: usize,
     pub halfedges: usize,
     pub coordinates: usize,
@@ -63,7 +64,7 @@ fn put_opening(out: &mut [u8], checked: Checked) -> Opened
     }
     file::put_head(&mut *out, checked.triangles as u32);
     Opened {
-        status: replies::ANSWERED,
+        status: Status::Answered,
         length: file::FACETS,
         halfedges: checked.halfedges,
         coordinates: 3 * checked.vertices,

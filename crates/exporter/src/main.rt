@@ -22,12 +22,9 @@ fn main(rt: HostRuntime) {
 fn export_input(rt: &HostRuntime, file: &mut [u8])
     requires { longest < length file.old }
 {
-    let read = streams::read(rt, &mut *file);
-    if read.failed {
-        return;
+    if let Some(length) = streams::read(rt, &mut *file) {
+        export(rt, &file[..length]);
     }
-    let length = read.length;
-    export(rt, &file[..length]);
 }
 
 // Puts out the opening for a file's bytes, then its facets, then the status.
@@ -36,13 +33,10 @@ fn export(rt: &HostRuntime, file: &[u8]) {
     let mut points = [0i32; 3 * HalfedgeTable::MOST_VERTICES];
     let mut out = [0u8; 1024];
     let opened = exporting::open(file, &mut vert, &mut points, &mut out);
-    let length = opened.length;
-    let halfedges = opened.halfedges;
-    let coordinates = opened.coordinates;
-    if streams::put(rt, &out[..length]) {
-        if put_facets(rt, &vert[..halfedges], &points[..coordinates]) {
-            streams::end(rt, opened.status);
-        }
+    if streams::put(rt, &out[..opened.length])
+        && put_facets(rt, &vert[..opened.halfedges], &points[..opened.coordinates])
+    {
+        streams::end(rt, opened.status);
     }
 }
 
@@ -51,13 +45,11 @@ fn put_facets(rt: &HostRuntime, vert: &[u32], points: &[i32]) -> bool
     requires { Drawn vert.now points.now }
 {
     let mut facet = [0u8; facets::FACET];
-    let mut triangle = 0;
-    while triangle < vert.len() / 3 {
+    for triangle in 0..vert.len() / 3 {
         facets::put_triangle(&mut facet, vert, points, triangle);
         if !streams::put(rt, &facet) {
             return false;
         }
-        triangle += 1;
     }
     true
 }

@@ -3,8 +3,6 @@
 --     over_more        two splices end to end are one, where the first is at the front
 --     splice-part      what was written over a lent part is spliced into the whole
 --     splice_one       a store is a splice
---     splice_two       two stores side by side are a splice
---     splice_four      and so are four
 use Prim.Native.Nat.{ℕ, suc, ◌+◌, ◌-◌, ◌≤◌, ◌<◌}
 use mathlib.Core.Path.{◌≡◌, refl, sym, ap, ◌∙◌}
 use mathlib.Core.List.{List, [], ◌∷◌, ◌++◌, append_assoc, append-nil}
@@ -44,13 +42,3 @@ module _ {A : Type 0} where
 
   pub splice_one : (l : List A) (at : ℕ) (a : A) → at < length l → set l at a ≡ splice l at (a ∷ [])
   splice_one l at a h = rw (drop-drop 1 at l, add-one) (set_split l at a h)
-
-  pub splice_two : (l : List A) (at : ℕ) (a b : A) → at + 2 ≤ length l → set (set l at a) (at + 1) b ≡ splice l at (a ∷ b ∷ [])
-  splice_two l at a b h = rw (add-one at, drop-drop 2 at l) (sets-eq (a ∷ b ∷ []) l at h ∙ append_assoc (take at l) (a ∷ b ∷ []) _)
-
-  pub splice_four : (l : List A) (at : ℕ) (a b c d : A) → at + 4 ≤ length l
-      → set (set (set (set l at a) (at + 1) b) (at + 2) c) (at + 3) d ≡ splice l at (a ∷ b ∷ c ∷ d ∷ [])
-  splice_four l at a b c d h =
-      let two : at + 2 ≡ suc (suc at) = omega arith in
-      let three : at + 3 ≡ suc (suc (suc at)) = omega arith in
-      rw (add-one at, two, three, drop-drop 4 at l) (sets-eq (a ∷ b ∷ c ∷ d ∷ []) l at h ∙ append_assoc (take at l) (a ∷ b ∷ c ∷ d ∷ []) _)

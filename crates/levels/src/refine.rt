@@ -90,6 +90,7 @@ pub fn short_levels(cage: HalfedgeTable, depth: usize, lent: &Tables) -> Result<
 }
 
 // The first of three lent tables that is shorter than the room.
+#[tactic(auto, unfolding(crate::specs::Refining::short_tables, halfedges::specs::Refusals::short, halfedges::specs::Refusals::given, halfedges::specs::Refusals::first))]
 fn short_table(room: usize, lent: &Tables) -> Result<(), Refusal>
     ensures { told result ≡ first (short_tables room (held lent.now)) }
 {

@@ -14,7 +14,7 @@ ghost use Rattle.lister.specs.Internal.Steps.{Small, checked_listing};
 use halfedges::table::{HalfedgeTable, Levels};
 use tables::check::Checked;
 use text::lines::LevelCounts;
-use text::replies::Written;
+use text::replies::{Status, Written};
 use text::{lines, replies};
 
 // The reply to any bytes, its text at the front of out.
@@ -56,7 +56,7 @@ fn put_listing(out: &mut [u8], checked: Checked) -> Written
         checked.borders,
     );
     Written {
-        status: replies::ANSWERED,
+        status: Status::Answered,
         length,
     }
 }
@@ -82,9 +82,8 @@ fn put_lines(out: &mut [u8], levels: Levels, borders: usize) -> usize
     ensures { Put out.old 0 882 (end_to_end 7 (level_line levels (doubled borders))) out.new result }
 {
     let mut at = 0;
-    let mut level = 0;
     let mut level_borders = borders;
-    while level <= HalfedgeTable::MOST_DEPTH {
+    for level in 0..=HalfedgeTable::MOST_DEPTH {
         at = put_level(
             &mut *out,
             at,
@@ -92,7 +91,6 @@ fn put_lines(out: &mut [u8], levels: Levels, borders: usize) -> usize
             level_borders,
         );
         level_borders = 2 * level_borders;
-        level += 1;
     }
     at
 }

@@ -19,18 +19,14 @@ fn main(rt: HostRuntime) {
 fn list_input(rt: &HostRuntime, file: &mut [u8])
     requires { longest < length file.old }
 {
-    let read = streams::read(rt, &mut *file);
-    if read.failed {
-        return;
+    if let Some(length) = streams::read(rt, &mut *file) {
+        list(rt, &file[..length]);
     }
-    let length = read.length;
-    list(rt, &file[..length]);
 }
 
 // Says the listing of a file's bytes.
 fn list(rt: &HostRuntime, file: &[u8]) {
     let mut out = [0u8; 1024];
     let written = listing::list(file, &mut out);
-    let length = written.length;
-    streams::say(rt, &out[..length], written.status);
+    streams::say(rt, &out[..written.length], written.status);
 }

@@ -23,9 +23,10 @@ use Rattle.writing.specs.declared.Writing.{Writing}
 use Rattle.writing.specs.Writing.{written, wrote}
 use Rattle.moves.specs.Moves.{cage_moves, move_checks, move_verdict, move}
 use Rattle.moves.proofs.Moved.{roomy_moves}
+use Rattle.text.specs.declared.replies.Status.TheVariants.{Answered}
 use Rattle.text.specs.declared.replies.Written.{Written}
 use Rattle.io.specs.Counts.{IsPrefixLen}
-use Rattle.text.specs.Replies.{Reply, refused, Says}
+use Rattle.text.specs.Replies.{Reply, refused, status_number, Says}
 use Rattle.text.specs.Internal.Put.{Replied}
 use Rattle.mover.specs.Moving.{moving}
 
@@ -58,19 +59,19 @@ module _ (from to : Form) (f : List ℕ) where
         let same : between ≡ before = left.1 ∙ rw (roomy_verdict from f to before long, ← verdict, here) in
         record { status = rw (← verdict, here) p.status; text = rw (← verdict, here, ← same) p.put.bytes; ends = rw (← verdict, here) (omega (arith, p.put.ends)) }
 
-    done_says : (told m.answer).number ≡ 0 → (r ≡ record { status = 0; length = m.length }) × (after ≡ between) → Says (moving from to f) before after r
+    done_says : (told m.answer).number ≡ 0 → (r ≡ record { status = Answered; length = m.length }) × (after ≡ between) → Says (moving from to f) before after r
     unfolding moving move written said filled
     done_says z p =
         let here = eq-eqb (told m.answer).number 0 z in
         let size : m.length ≡ length (file to (cage_in f)) = ap (λ s. s.values) left.0 ∙ rw (roomy_verdict from f to before long, ← verdict, here) in
         record {
-          status = rw (← verdict, here) (ap (λ w. w.status) p.0);
+          status = rw (← verdict, here) (ap (λ w. status_number w.status) p.0);
           text = rw (← verdict, here) (p.1 ∙ left.1 ∙ rw (roomy_verdict from f to before long, ← verdict, here));
           ends = rw (← verdict, here) (ap (λ w. w.length) p.0 ∙ size);
         }
 
     pub moved_says : ((told m.answer).number ≢ 0 → Replied between 50 (refused (told m.answer)) after r)
-        → ((told m.answer).number ≡ 0 → (r ≡ record { status = 0; length = m.length }) × (after ≡ between)) → Says (moving from to f) before after r
+        → ((told m.answer).number ≡ 0 → (r ≡ record { status = Answered; length = m.length }) × (after ≡ between)) → Says (moving from to f) before after r
     moved_says p q = by (ℕ_discrete (told m.answer).number 0)
       where
         by : Dec ((told m.answer).number ≡ 0) → Says (moving from to f) before after r

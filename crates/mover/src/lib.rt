@@ -4,13 +4,14 @@
 ghost use Rattle.std.specs.Prelude.{◌≡◌, ◌≢◌, ◌≤◌, ◌<◌, length};
 ghost use Rattle.io.specs.Counts.{IsPrefixLen};
 ghost use Rattle.halfedges.specs.Refusals.{told};
+ghost use Rattle.text.specs.declared.replies.Status.TheVariants.{Answered};
 ghost use Rattle.text.specs.Replies.{refused, Says};
 ghost use Rattle.text.specs.Internal.Put.{Replied};
 ghost use Rattle.intake.specs.Internal.Buffer.{longest};
 ghost use Rattle.mover.specs.Moving.{moving};
 
 use cagefile::fields::Form;
-use text::replies::Written;
+use text::replies::{Status, Written};
 use text::{replies, streams};
 use writing::Writing;
 
@@ -22,20 +23,16 @@ const LONGEST: usize = 46111;
 pub fn move_input(rt: &HostRuntime, file: &mut [u8], from: Form, to: Form)
     requires { longest < length file.old }
 {
-    let read = streams::read(rt, &mut *file);
-    if read.failed {
-        return;
+    if let Some(length) = streams::read(rt, &mut *file) {
+        hand_over(rt, &file[..length], from, to);
     }
-    let length = read.length;
-    hand_over(rt, &file[..length], from, to);
 }
 
 // Hands over the moved file, or the refusal.
 fn hand_over(rt: &HostRuntime, file: &[u8], from: Form, to: Form) {
     let mut out = [0u8; LONGEST];
     let written = reply(file, from, to, &mut out);
-    let length = written.length;
-    streams::hand_over(rt, &out[..length], written.status);
+    streams::hand_over(rt, &out[..written.length], written.status);
 }
 
 // The reply to any bytes, the moved file or the refusal's line at the front of out.
@@ -52,14 +49,14 @@ fn put_reply(out: &mut [u8], moved: Writing) -> Written
     requires { 50 ≤ length out.old }
     ensures replied { (told moved.answer).number ≢ 0 → Replied out.old 50 (refused (told moved.answer)) out.new result }
     ensures value { (told moved.answer).number ≡ 0
-        → (result ≡ record { status = 0; length = moved.length }) × (out.new ≡ out.old) }
+        → (result ≡ record { status = Answered; length = moved.length }) × (out.new ≡ out.old) }
 {
     let answer = moved.answer;
     if answer.number() != 0 {
         return replies::put_refusal(&mut *out, answer);
     }
     Written {
-        status: replies::ANSWERED,
+        status: Status::Answered,
         length: moved.length,
     }
 }

@@ -11,10 +11,8 @@ pub fn copy_numbers(file: &[u8], at: usize, table: &mut [u32], count: usize)
     requires { (at + 2 * count ≤ length file.now) × (count ≤ length table.old) }
     ensures { table.new ≡ in_front (tabulate count (λ h. u16_at file.now (at + 2 * h))) table.old }
 {
-    let mut halfedge = 0;
-    while halfedge < count {
+    for halfedge in 0..count {
         table[halfedge] = numbers::number_at(file, at + 2 * halfedge);
-        halfedge += 1;
     }
 }
 
@@ -24,10 +22,8 @@ pub fn copy_points(file: &[u8], at: usize, points: &mut [i32], count: usize)
     ensures { points.new ≡ in_front (tabulate count (λ i. signed (u32_at file.now (at + 4 * i))))
         points.old }
 {
-    let mut index = 0;
-    while index < count {
+    for index in 0..count {
         points[index] = numbers::coordinate_at(file, at + 4 * index);
-        index += 1;
     }
 }
 
@@ -36,9 +32,5 @@ pub fn copy_creases(file: &[u8], at: usize, creases: &mut [u8], count: usize)
     requires { (at + count ≤ length file.now) × (count ≤ length creases.old) }
     ensures { creases.new ≡ in_front (tabulate count (λ e. get_or file.now (at + e) 0)) creases.old }
 {
-    let mut number = 0;
-    while number < count {
-        creases[number] = file[at + number];
-        number += 1;
-    }
+    creases[..count].copy_from_slice(&file[at..at + count]);
 }

@@ -3,10 +3,9 @@
 --     facet_numbers, facet_bytes_lem        a facet's floats are numbers, and have the definition's bytes
 --     triangle_placed, filled_as        the corners of a triangle
 --     five_written                      a facet's five parts
---     facet_written, facets_keep        one more facet
+--     facet_written                     one more facet
 --     head-written, file-written        the head, and the whole file
 --     head-length, file-length          how long they are
---     zeros_more                        one more zero
 use Prim.Native.Nat.{ℕ, zero, suc, ◌+◌, ◌-◌, ◌*◌, ◌≤◌, ◌<◌}
 use mathlib.Core.Path.{◌≡◌, refl, sym, subst, ap, ap₂, ◌∙◌}
 use mathlib.Core.List.{List, [], ◌∷◌, ◌++◌, map, flat_map, append_assoc}
@@ -15,7 +14,7 @@ use native.Mathlib.Numerals.{add-one}
 use native.Mathlib.Omega.{arith}
 use lib.Dec.{lit<, lit≤}
 use lib.IntN.{ℤ, pos, nat_abs}
-use lib.ListN.{length, get_or, set, replicate, length-append}
+use lib.ListN.{length, get_or, replicate, length-append}
 use mir.Syntax.{w32}
 use mir.Val.{to_z, of_z}
 use mir.ValLaws.{to_z-of_z}
@@ -25,8 +24,7 @@ use Rattle.laws.specs.Below.{end_to_end}
 use Rattle.laws.specs.Parts.{in_front}
 use Rattle.laws.specs.Internal.Parts.{splice}
 use Rattle.laws.proofs.Integers.{small_fits}
-use Rattle.laws.proofs.Splice.{over_more, splice_one, splice-part}
-use Rattle.laws.proofs.Parts.{length-in_front}
+use Rattle.laws.proofs.Splice.{over_more, splice-part}
 use Rattle.halfedges.specs.Cage.{F, cell}
 use Rattle.halfedges.specs.Corners.{corners}
 use Rattle.points.specs.NextPoints.{point_of}
@@ -158,9 +156,6 @@ module _ (vert : List ℕ) (points : List ℤ) where
       → put_mid (50 * n) (length l - 50 * n) l m ≡ in_front (facets (n + 1)) d
   facet_written d l m x n e w y = rw (w, y) (splice-part l (facet_at vert points n) (50 * n) ∙ facets_more d l n e)
 
-  pub facets_keep : (d l : List ℕ) (n : ℕ) → 50 * n ≤ length d → l ≡ in_front (facets n) d → length l ≡ length d
-  facets_keep d l n h e = ap length e ∙ length-in_front (facets n) d (rw (facets_length n) h)
-
   pub file-length : length (stl_file vert points) ≡ 84 + 50 * F (length vert)
   unfolding stl_file
   file-length =
@@ -179,16 +174,3 @@ module _ (vert : List ℕ) (points : List ℤ) where
 pub head-written : (d f : List ℕ) (count : ℕ) → f ≡ in_front (replicate 80 0) d → splice f 80 (u32 count) ≡ in_front (stl_head count) d
 unfolding stl_head
 head-written d f count e = over_more d f (replicate 80 0) (u32 count) 80 e refl
-
--- ---- zeros
-
-zeros_last : (n : ℕ) → replicate {A = ℕ} (suc n) 0 ≡ replicate n 0 ++ (0 ∷ [])
-zeros_last zero = refl
-zeros_last (suc n) = ap (λ t. 0 ∷ t) (zeros_last n)
-
-zeros_length : (n : ℕ) → length (replicate {A = ℕ} n 0) ≡ n
-zeros_length zero = refl
-zeros_length (suc n) = ap suc (zeros_length n)
-
-pub zeros_more : (d l : List ℕ) (n : ℕ) → n < length l → l ≡ in_front (replicate n 0) d → set l n 0 ≡ in_front (replicate (n + 1) 0) d
-zeros_more d l n h e = rw (add-one n) (splice_one l n 0 h ∙ over_more d l (replicate n 0) (0 ∷ []) n e (zeros_length n) ∙ ap (λ t. in_front t d) (sym (zeros_last n)))

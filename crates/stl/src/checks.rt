@@ -10,25 +10,13 @@ use halfedges::refusal::Refusal;
 // What a table has at most: the halfedges of the largest cage at the deepest level.
 const LONGEST: usize = 12582912;
 
-// The larger of two numbers.
-fn larger(one: u32, other: u32) -> u32
-    ensures { (one ≤ result) × (other ≤ result) }
-{
-    if one < other {
-        return other;
-    }
-    one
-}
-
 // A number that no corner is above: the highest of them, found without a branch.
 fn highest(vert: &[u32]) -> u32
     ensures { (h : ℕ) → h < length vert.now → cell vert.now h ≤ result }
 {
-    let mut most = 0;
-    let mut halfedge = 0;
-    while halfedge < vert.len() {
-        most = larger(most, vert[halfedge]);
-        halfedge += 1;
+    let mut most: u32 = 0;
+    for corner in vert {
+        most = most.max(*corner);
     }
     most
 }

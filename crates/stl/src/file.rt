@@ -15,24 +15,12 @@ const COUNT: usize = 80;
 
 pub const FACETS: usize = 84;
 
-// Zeros in front of a lent part.
-fn put_zeros(part: &mut [u8], count: usize)
-    requires { count ≤ length part.old }
-    ensures { part.new ≡ in_front (replicate count 0) part.old }
-{
-    let mut place = 0;
-    while place < count {
-        part[place] = 0;
-        place += 1;
-    }
-}
-
 // The head of a file of so many facets.
 pub fn put_head(file: &mut [u8], facets: u32)
     requires { 84 ≤ length file.old }
     ensures { file.new ≡ in_front (stl_head facets) file.old }
 {
-    put_zeros(&mut *file, COUNT);
+    file[..COUNT].fill(0);
     numbers::put_word(&mut *file, COUNT, facets);
 }
 
@@ -44,13 +32,11 @@ fn put_facets(part: &mut [u8], vert: &[u32], points: &[i32])
 {
     let last = vert.len() / 3 - 1;
     let mut facet = facets::facet_of(points, corners::corners_of(vert, 0));
-    let mut triangle = 0;
-    while triangle < last {
+    for triangle in 0..last {
         let next = facets::facet_of(points, corners::corners_of(vert, triangle + 1));
         let at = facets::FACET * triangle;
         facets::put_facet(&mut part[at..], facet);
         facet = next;
-        triangle += 1;
     }
     let at = facets::FACET * last;
     facets::put_facet(&mut part[at..], facet);

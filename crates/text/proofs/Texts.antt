@@ -3,7 +3,7 @@
 --     put_then, put_words     a word and the rest of its line, words and the rest of their line
 --     put_within              what takes less room
 --     put_next                one line more after k lines
---     word_next, bytes_put    bytes one by one; `byte_put` one of them
+--     byte_put                one byte
 --     digits_put              the digits of a number
 use Prim.Native.Nat.{ℕ, ◌+◌, ◌*◌, ◌^◌, ◌≤◌, ◌<◌, zero-le}
 use mathlib.Core.Path.{◌≡◌, refl, sym, ap, ◌∙◌}
@@ -11,11 +11,9 @@ use mathlib.Core.List.{List, [], ◌∷◌, ◌++◌, append_assoc}
 use native.Mathlib.Nat.{add-zero, le_refl, mul-add, mul-one}
 use native.Mathlib.Numerals.{add-one}
 use native.Mathlib.Omega.{arith}
-use lib.ListN.{length, get_or, take, set, length-append, take-append-drop}
-use lib.Seq.{paste, paste-suc, take-length, drop-drop}
+use lib.ListN.{length, set, length-append, take-append-drop}
 use Rattle.io.specs.Digits.{last_digits, IsDigitCount}
 use Rattle.laws.specs.Below.{end_to_end}
-use Rattle.laws.specs.Internal.Parts.{splice}
 use Rattle.laws.proofs.Splice.{splice_one, splice_more}
 use Rattle.text.specs.Lines.{space, decimal, ended}
 use Rattle.text.specs.Internal.Put.{Put}
@@ -51,16 +49,6 @@ pub put_next : {o p q : List ℕ} {at next : ℕ} (f : ℕ → List ℕ) (m k : 
 put_next f m k before new =
     let more : m * (k + 1) ≡ m * k + m = mul-add m k 1 ∙ ap (λ n. m * k + n) (mul-one m) in
     rw (more, add-one k) (put_more zero-le before new)
-
-module _ (d l w : List ℕ) (at : ℕ) where
-  pub word_next : (j a : ℕ) → at + j < length d → j < length w → l ≡ paste d at w j → a ≡ get_or w j 0 → set l (at + j) a ≡ paste d at w (j + 1)
-  word_next j a h k e p = rw (e, p, add-one j) (paste-suc d at w j 0 h k)
-
-  whole : paste d at w (length w) ≡ splice d at w
-  whole = rw (take-length w, append_assoc (take at d) w, ← drop-drop (length w) at d)
-
-  pub bytes_put : at + length w ≤ length d → l ≡ paste d at w (length w) → Put d at (length w) w l (at + length w)
-  bytes_put h e = record { bytes = e ∙ whole; ends = refl; short = le_refl _ }
 
 pub byte_put : (d : List ℕ) (at a : ℕ) → at < length d → Put d at 1 (a ∷ []) (set d at a) (at + 1)
 byte_put d at a h = record { bytes = splice_one d at a h; ends = refl; short = le_refl _ }

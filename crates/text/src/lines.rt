@@ -8,22 +8,19 @@ ghost use Rattle.text.specs.Internal.LevelWords.{words_of};
 use halfedges::table::Levels;
 
 // What stands between the words of a line.
-pub const SPACE: u8 = 32;
+pub const SPACE: u8 = b' ';
 
 // What stands after the last word of a line.
-pub const NEWLINE: u8 = 10;
+pub const NEWLINE: u8 = b'\n';
 
 // Bytes as they stand.
 pub fn put_bytes(out: &mut [u8], at: usize, bytes: &[u8]) -> usize
     requires { at + length bytes.now ≤ length out.old }
     ensures { Put out.old at (length bytes.now) bytes.now out.new result }
 {
-    let mut i = 0;
-    while i < bytes.len() {
-        out[at + i] = bytes[i];
-        i += 1;
-    }
-    at + bytes.len()
+    let next = at + bytes.len();
+    out[at..next].copy_from_slice(bytes);
+    next
 }
 
 // One byte.

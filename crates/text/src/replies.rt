@@ -7,22 +7,24 @@ ghost use Rattle.text.specs.Internal.Put.{Replied};
 use crate::lines;
 use halfedges::refusal::Refusal;
 
-// The status of an answer.
-pub const ANSWERED: usize = 0;
-
-// The status of a refusal.
-pub const REFUSED: usize = 1;
-
-// The status where no question was asked.
-pub const MISUSED: usize = 2;
-
-// The status where a stream failed.
-pub const FAILED: usize = 3;
+// How a program ends, by the number that it hands over.
+#[derive(Clone, Copy, PartialEq, Eq)]
+pub enum Status {
+    // an answer
+    Answered = 0,
+    // a refusal
+    Refused = 1,
+    // no question was asked
+    Misused = 2,
+    // a stream failed
+    Failed = 3,
+}
 
 // A reply's status, and how many bytes its text has, at the front of what was lent for it.
+// A length and no slice: the contract says what stands in all that was lent, also past the text.
 #[derive(Clone, Copy)]
 pub struct Written {
-    pub status: usize,
+    pub status: Status,
     pub length: usize,
 }
 
@@ -36,7 +38,7 @@ pub fn put_refusal(out: &mut [u8], refusal: Refusal) -> Written
     let next = lines::put_word(&mut *out, 0, b"refused", lines::SPACE);
     let length = lines::put_pair(&mut *out, next, number, place, lines::NEWLINE);
     Written {
-        status: REFUSED,
+        status: Status::Refused,
         length,
     }
 }
@@ -48,7 +50,7 @@ pub fn put_misuse(out: &mut [u8], message: &[u8]) -> Written
 {
     let length = lines::put_word(&mut *out, 0, message, lines::NEWLINE);
     Written {
-        status: MISUSED,
+        status: Status::Misused,
         length,
     }
 }

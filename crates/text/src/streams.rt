@@ -1,7 +1,8 @@
 // The standard streams, and the status that a program ends with.
+ghost use Rattle.std.specs.Prelude.{IfSome};
 ghost use Rattle.io.specs.Counts.{IsPrefixLen};
 
-use crate::replies;
+use crate::replies::Status;
 use std::fs::{File, OpenOptions};
 use std::io::{ErrorKind, Print, Read, Write};
 use std::{fs, io};
@@ -10,56 +11,37 @@ use std::{fs, io};
 // descriptor that is none of the three standard ones: opening it opens what the descriptor has open once more.
 const STATUS_PATH: &str = "/dev/fd/3";
 
-// How many bytes stand at the buffer's front, and whether a read failed.
-#[derive(Clone, Copy)]
-pub struct Input {
-    pub length: usize,
-    pub failed: bool,
-}
-
-// Reads standard input until the buffer is full, the input ends or a read fails, which is told. A pipe may hand over a part at a time.
-pub fn read(rt: &HostRuntime, buffer: &mut [u8]) -> Input
-    ensures { IsPrefixLen result.length buffer.new }
+// Reads standard input until the buffer is full or the input ends, and answers how many bytes stand at its front; none where a read
+// fails, which is told. A pipe may hand over a part at a time.
+pub fn read(rt: &HostRuntime, buffer: &mut [u8]) -> Option<usize>
+    ensures { IfSome result (λ length. IsPrefixLen length buffer.new) }
 {
     let mut done = 0;
+    // each turn goes on by as much as a read hands over, which no range counts
     while done < buffer.len() {
-        let more = read_part(rt, &mut buffer[done..]);
-        if more.length == 0 {
-            return Input {
-                length: done,
-                failed: more.failed,
-            };
+        let more = read_part(rt, &mut buffer[done..])?;
+        if more == 0 {
+            return Some(done);
         }
-        done += more.length;
+        done += more;
     }
-    Input {
-        length: done,
-        failed: false,
-    }
+    Some(done)
 }
 
-// Reads once: no bytes where the input ends or the read fails.
-fn read_part(rt: &HostRuntime, part: &mut [u8]) -> Input
-    ensures { IsPrefixLen result.length part.new }
+// Reads once: no bytes where the input ends.
+fn read_part(rt: &HostRuntime, part: &mut [u8]) -> Option<usize>
+    ensures { IfSome result (λ length. IsPrefixLen length part.new) }
 {
-    match rt.stdin().read(&mut *part) {
-        Ok(length) => Input {
-            length,
-            failed: false,
-        },
-        Err(_) => {
-            fail(rt, b"ryebadger: the input cannot be read\n");
-            Input {
-                length: 0,
-                failed: true,
-            }
-        }
+    let read = rt.stdin().read(&mut *part).ok();
+    if read.is_none() {
+        fail(rt, b"ryebadger: the input cannot be read\n");
     }
+    read
 }
 
 // Says a reply: an answer and a refusal on standard output, what a question looks like on standard error.
-pub fn say(rt: &HostRuntime, text: &[u8], status: usize) {
-    if status == replies::MISUSED {
+pub fn say(rt: &HostRuntime, text: &[u8], status: Status) {
+    if status == Status::Misused {
         tell(rt, text, status);
         return;
     }
@@ -69,8 +51,8 @@ pub fn say(rt: &HostRuntime, text: &[u8], status: usize) {
 }
 
 // Hands over a reply whose answer is a file: only that goes to standard output, and a refusal is told on standard error.
-pub fn hand_over(rt: &HostRuntime, reply: &[u8], status: usize) {
-    if status != replies::ANSWERED {
+pub fn hand_over(rt: &HostRuntime, reply: &[u8], status: Status) {
+    if status != Status::Answered {
         tell(rt, reply, status);
         return;
     }
@@ -80,7 +62,7 @@ pub fn hand_over(rt: &HostRuntime, reply: &[u8], status: usize) {
 }
 
 // Tells on standard error what is no answer.
-fn tell(rt: &HostRuntime, text: &[u8], status: usize) {
+fn tell(rt: &HostRuntime, text: &[u8], status: Status) {
     let _ = Print::write_all(&rt.stderr(), text);
     end(rt, status);
 }
@@ -96,13 +78,13 @@ pub fn put(rt: &HostRuntime, part: &[u8]) -> bool {
 
 // Says which stream failed.
 fn fail(rt: &HostRuntime, message: &[u8]) {
-    tell(rt, message, replies::FAILED);
+    tell(rt, message, Status::Failed);
 }
 
 // Hands the status over to the command; where descriptor 3 is closed or cannot be written, to nobody.
-pub fn end(rt: &HostRuntime, status: usize) {
+pub fn end(rt: &HostRuntime, status: Status) {
     if let Ok(mut file) = open_status(rt) {
-        let _ = write!(file, "{status}");
+        let _ = write!(file, "{}", status as u8);
     }
 }
 

@@ -42,10 +42,8 @@ fn put_numbers(part: &mut [u8], table: &[u32])
     requires { 2 * length table.now ≤ length part.old }
     ensures { part.new ≡ in_front (flat_map u16 table.now) part.old }
 {
-    let mut halfedge = 0;
-    while halfedge < table.len() {
+    for halfedge in 0..table.len() {
         numbers::put_number(&mut *part, 2 * halfedge, table[halfedge]);
-        halfedge += 1;
     }
 }
 
@@ -54,10 +52,8 @@ fn put_points(part: &mut [u8], points: &[i32])
     requires { 4 * length points.now ≤ length part.old }
     ensures { part.new ≡ in_front (flat_map u32 (map twos points.now)) part.old }
 {
-    let mut index = 0;
-    while index < points.len() {
+    for index in 0..points.len() {
         numbers::put_coordinate(&mut *part, 4 * index, points[index]);
-        index += 1;
     }
 }
 
@@ -66,11 +62,7 @@ fn put_bytes(part: &mut [u8], bytes: &[u8])
     requires { length bytes.now ≤ length part.old }
     ensures { part.new ≡ in_front bytes.now part.old }
 {
-    let mut index = 0;
-    while index < bytes.len() {
-        part[index] = bytes[index];
-        index += 1;
-    }
+    part[..bytes.len()].copy_from_slice(bytes);
 }
 
 // The first field. Answers where the next head goes.

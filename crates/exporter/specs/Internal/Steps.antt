@@ -4,7 +4,7 @@ use Rattle.laws.specs.Parts.{in_front}
 use Rattle.halfedges.specs.Cage.{most_halfedges, most_vertices}
 use Rattle.halfedges.specs.Refusals.{told, when_done}
 use Rattle.tables.specs.declared.check.Checked.{Checked}
-use Rattle.text.specs.Replies.{refused}
+use Rattle.text.specs.Replies.{refused, status_number}
 use Rattle.stl.specs.File.{stl_head}
 use Rattle.exporter.specs.declared.exporting.Opened.{Opened}
 
@@ -20,7 +20,7 @@ opening_of c = when_done (told c.answer) (stl_head c.triangles) (refused (told c
 
 -- this stands at the front, and what is told with it
 pub record Opening (c : Checked) (before after : List ℕ) (r : Opened) : Type 0 where
-  pub status : r.status ≡ when_done (told c.answer) 0 1
+  pub status : status_number r.status ≡ when_done (told c.answer) 0 1
   pub text : after ≡ in_front (opening_of c) before
   pub ends : r.length ≡ length (opening_of c)
   pub short : r.length ≤ 84

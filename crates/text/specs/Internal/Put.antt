@@ -2,7 +2,7 @@
 use Rattle.std.specs.Prelude.{ℕ, ◌+◌, ◌≤◌, ◌≡◌, List, length}
 use Rattle.laws.specs.Internal.Parts.{splice}
 use Rattle.text.specs.declared.replies.Written.{Written}
-use Rattle.text.specs.Replies.{Reply}
+use Rattle.text.specs.Replies.{Reply, status_number}
 
 -- a text of at most so many bytes stands from a place on, next is the place after it, and all else is as before
 pub record Put (before : List ℕ) (at most : ℕ) (text after : List ℕ) (next : ℕ) : Type 0 where
@@ -13,4 +13,4 @@ pub record Put (before : List ℕ) (at most : ℕ) (text after : List ℕ) (next
 -- a reply's text of at most so many bytes stands at the front, and its length and status are told
 pub record Replied (before : List ℕ) (most : ℕ) (reply : Reply) (after : List ℕ) (told : Written) : Type 0 where
   pub put : Put before 0 most reply.text after told.length
-  pub status : told.status ≡ reply.status
+  pub status : status_number told.status ≡ reply.status

@@ -15,9 +15,9 @@ loop-halfedge-init c = search rules
 
 pub loop-halfedge-preserved : goal.loop-halfedge-preserved
 loop-halfedge-preserved c =
-    (omega arith, c.put_number.auto.part ∙ c.loop-halfedge.invariant.1, c.put_number.ensures ∙ chunk_next u16 2 (λ _. refl) _ _ _ 0 _ c.loop-halfedge-test.true c.loop-halfedge.invariant.2)
+    (c.put_number.ensures ∙ chunk_next u16 2 (λ _. refl) _ _ _ 0 _ c.loop-halfedge-test.true c.loop-halfedge.invariant)
 
 pub returns : goal.returns
 returns c =
     let e : c.loop-halfedge.halfedge ≡ length c.args.table.now = omega arith in
-    simp take-length at (rw e at c.loop-halfedge.invariant.2)
+    simp take-length at (rw e at c.loop-halfedge.invariant)

@@ -7,7 +7,5 @@ use Rattle.cagefile.specs.Numbers.{u16}
 use Rattle.writing.proofs.put_numbers.Given as goal
 
 abbrev pub invariant-loop-halfedge : goal.invariant-loop-halfedge
-invariant-loop-halfedge l = (l.halfedge ≤ length l.table) × (length l.part ≡ length l.initial.part) × (l.part ≡ in_front (flat_map u16 (take l.halfedge l.table)) l.initial.part)
-
-abbrev pub decreases-loop-halfedge : goal.decreases-loop-halfedge
-decreases-loop-halfedge l = length l.table - l.halfedge
+invariant-loop-halfedge l =
+    l.part ≡ in_front (flat_map u16 (take l.halfedge l.table)) l.initial.part

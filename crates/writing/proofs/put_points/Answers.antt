@@ -24,12 +24,10 @@ pub loop-index-preserved : goal.loop-index-preserved
 loop-index-preserved c =
     let z = get_or c.args.points.now c.loop-index.index (pos 0) in
     let same = to_z-of_z {w = w32} {z = z} (record { sfits = c.put_coordinate-arg-in-loop-index-1.given }) in (
-      omega arith,
-      c.put_coordinate.auto.part ∙ c.loop-index.invariant.1,
-      c.put_coordinate.ensures ∙ ap (λ z. splice c.loop-index.part (4 * c.loop-index.index) (put z)) same ∙ chunk_next put 4 (λ _. refl) _ _ _ (pos 0) _ c.loop-index-test.true c.loop-index.invariant.2,
+    c.put_coordinate.ensures ∙ ap (λ z. splice c.loop-index.part (4 * c.loop-index.index) (put z)) same ∙ chunk_next put 4 (λ _. refl) _ _ _ (pos 0) _ c.loop-index-test.true c.loop-index.invariant
     )
 
 pub returns : goal.returns
 returns c =
     let e : c.loop-index.index ≡ length c.args.points.now = omega arith in
-    rw (flat_map_map twos u32) (simp take-length at (rw e at c.loop-index.invariant.2))
+    rw (flat_map_map twos u32) (simp take-length at (rw e at c.loop-index.invariant))

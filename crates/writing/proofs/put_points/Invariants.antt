@@ -11,7 +11,5 @@ abbrev pub put : ℤ → List ℕ
 put z = u32 (twos z)
 
 abbrev pub invariant-loop-index : goal.invariant-loop-index
-invariant-loop-index l = (l.index ≤ length l.points) × (length l.part ≡ length l.initial.part) × (l.part ≡ in_front (flat_map put (take l.index l.points)) l.initial.part)
-
-abbrev pub decreases-loop-index : goal.decreases-loop-index
-decreases-loop-index l = length l.points - l.index
+invariant-loop-index l =
+    l.part ≡ in_front (flat_map put (take l.index l.points)) l.initial.part

@@ -11,9 +11,9 @@ use Rattle.filechecks.proofs.twins.copy_twins.Goals as goal
 pub loop-halfedge-preserved : goal.loop-halfedge-preserved
 loop-halfedge-preserved c =
     let h : c.loop-halfedge.halfedge < length c.loop-halfedge.twin = omega arith in
-    (omega arith, simp length-set c.loop-halfedge.invariant.1, over_next _ _ (cell c.args.file.now c.args.at) _ _ h c.loop-halfedge.invariant.2 (c.as_twin.ensures ∙ ap as_twin c.number_at-number.ensures.0))
+    (over_next _ _ (cell c.args.file.now c.args.at) _ _ h c.loop-halfedge.invariant (c.as_twin.ensures ∙ ap as_twin c.number_at-number.ensures.0))
 
 pub returns : goal.returns
 returns c =
     let e : c.loop-halfedge.halfedge ≡ c.args.count = omega arith in
-    rw e at c.loop-halfedge.invariant.2
+    rw e at c.loop-halfedge.invariant

@@ -11,7 +11,5 @@ abbrev pub cell : List ℕ → ℕ → ℕ → ℕ
 cell file at h = as_twin (u16_at file (at + 2 * h))
 
 abbrev pub invariant-loop-halfedge : goal.invariant-loop-halfedge
-invariant-loop-halfedge l = (l.halfedge ≤ l.count) × (length l.twin ≡ length l.initial.twin) × (l.twin ≡ in_front (tabulate l.halfedge (cell l.file l.at)) l.initial.twin)
-
-abbrev pub decreases-loop-halfedge : goal.decreases-loop-halfedge
-decreases-loop-halfedge l = l.count - l.halfedge
+invariant-loop-halfedge l =
+    l.twin ≡ in_front (tabulate l.halfedge (cell l.file l.at)) l.initial.twin

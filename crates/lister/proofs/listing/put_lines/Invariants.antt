@@ -9,7 +9,4 @@ use Rattle.lister.proofs.listing.put_lines.Given as goal
 
 abbrev pub invariant-loop-level : goal.invariant-loop-level
 invariant-loop-level l =
-    (l.level ≤ 7) × (l.level_borders ≡ doubled l.borders l.level) × (length l.out ≡ length l.initial.out) × Put l.initial.out 0 (126 * l.level) (end_to_end l.level (level_line l.levels (doubled l.borders))) l.out l.at
-
-abbrev pub decreases-loop-level : goal.decreases-loop-level
-decreases-loop-level l = 7 - l.level
+    (l.level_borders ≡ doubled l.borders l.level) × Put l.initial.out 0 (126 * l.level) (end_to_end l.level (level_line l.levels (doubled l.borders))) l.out l.at

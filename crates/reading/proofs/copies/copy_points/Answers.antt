@@ -12,9 +12,9 @@ use Rattle.reading.proofs.copies.copy_points.Goals as goal
 pub loop-index-preserved : goal.loop-index-preserved
 loop-index-preserved c =
     let h : c.loop-index.index < length c.loop-index.points = omega arith in
-    (omega arith, simp length-set c.loop-index.invariant.1, over_next _ _ (cell c.args.file.now c.args.at) _ _ h c.loop-index.invariant.2 (to_z-of_z {w = w32} (record { sfits = c.coordinate_at.type_inv }) ∙ c.coordinate_at.ensures))
+    (over_next _ _ (cell c.args.file.now c.args.at) _ _ h c.loop-index.invariant (to_z-of_z {w = w32} (record { sfits = c.coordinate_at.type_inv }) ∙ c.coordinate_at.ensures))
 
 pub returns : goal.returns
 returns c =
     let e : c.loop-index.index ≡ c.args.count = omega arith in
-    rw e at c.loop-index.invariant.2
+    rw e at c.loop-index.invariant

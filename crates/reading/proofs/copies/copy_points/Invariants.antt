@@ -12,7 +12,5 @@ abbrev pub cell : List ℕ → ℕ → ℕ → ℤ
 cell file at i = signed (u32_at file (at + 4 * i))
 
 abbrev pub invariant-loop-index : goal.invariant-loop-index
-invariant-loop-index l = (l.index ≤ l.count) × (length l.points ≡ length l.initial.points) × (l.points ≡ in_front (tabulate l.index (cell l.file l.at)) l.initial.points)
-
-abbrev pub decreases-loop-index : goal.decreases-loop-index
-decreases-loop-index l = l.count - l.index
+invariant-loop-index l =
+    l.points ≡ in_front (tabulate l.index (cell l.file l.at)) l.initial.points

@@ -9,7 +9,7 @@ use lib.ListN.{length}
 use Rattle.laws.specs.Parts.{in_front}
 use Rattle.halfedges.specs.Cage.{F}
 use Rattle.halfedges.specs.Corners.{corners}
-use Rattle.stl.proofs.FacetLaws.{triangle_placed, filled_as, facet_numbers, facet_bytes_lem, facets, facet_written, facets_keep}
+use Rattle.stl.proofs.FacetLaws.{triangle_placed, filled_as, facet_numbers, facet_bytes_lem, facets, facet_written}
 use Rattle.stl.proofs.file.put_facets.Goals as goal
 use Rattle.stl.proofs.file.put_facets.Goals.{At-loop-triangle, Start}
 
@@ -29,7 +29,7 @@ facet_of-facet-requires c =
     (triangle_placed c.args.vert.now c.args.points.now c.requires.0.drawn 0 (omega arith) c.corners_of.ensures, c.requires.0.drawn.ranged)
 
 pub loop-triangle-init : goal.loop-triangle-init
-loop-triangle-init c = (omega arith, refl, refl, filled_as c.corners_of.ensures c.facet_of-facet.ensures)
+loop-triangle-init c = (refl, filled_as c.corners_of.ensures c.facet_of-facet.ensures)
 
 pub facet_of-next-requires : goal.facet_of-next-requires
 facet_of-next-requires c =
@@ -37,16 +37,16 @@ facet_of-next-requires c =
 
 pub put_facet-requires : goal.put_facet-requires
 put_facet-requires c =
-    (search rules, facet_numbers (start (goal.at.put_facet-requires c).At-loop-triangle).requires.0.drawn.ranged c.loop-triangle.invariant.3)
+    (search rules, facet_numbers (start (goal.at.put_facet-requires c).At-loop-triangle).requires.0.drawn.ranged c.loop-triangle.invariant.1)
 
 pub loop-triangle-preserved : goal.loop-triangle-preserved
 loop-triangle-preserved c =
-    let e = facet_written (vert (goal.at.loop-triangle-preserved c).At-loop-triangle) (points (goal.at.loop-triangle-preserved c).At-loop-triangle) (start (goal.at.loop-triangle-preserved c).At-loop-triangle).args.part.now c.loop-triangle.part _ _ c.loop-triangle.triangle c.loop-triangle.invariant.2 c.put_facet.ensures (facet_bytes_lem (start (goal.at.loop-triangle-preserved c).At-loop-triangle).requires.0.drawn.ranged c.loop-triangle.invariant.3) in
-    (omega arith, facets_keep (vert (goal.at.loop-triangle-preserved c).At-loop-triangle) (points (goal.at.loop-triangle-preserved c).At-loop-triangle) _ _ (c.loop-triangle.triangle + 1) (omega arith) e, e, filled_as c.corners_of-in-loop-triangle.ensures c.facet_of-next.ensures)
+    let e = facet_written (vert (goal.at.loop-triangle-preserved c).At-loop-triangle) (points (goal.at.loop-triangle-preserved c).At-loop-triangle) (start (goal.at.loop-triangle-preserved c).At-loop-triangle).args.part.now c.loop-triangle.part _ _ c.loop-triangle.triangle c.loop-triangle.invariant.0 c.put_facet.ensures (facet_bytes_lem (start (goal.at.loop-triangle-preserved c).At-loop-triangle).requires.0.drawn.ranged c.loop-triangle.invariant.1) in
+    (e, filled_as c.corners_of-in-loop-triangle.ensures c.facet_of-next.ensures)
 
 pub put_facet-requires-2 : goal.put_facet-requires-2
 put_facet-requires-2 c =
-    (search rules, facet_numbers (start (goal.at.put_facet-requires-2 c).At-loop-triangle).requires.0.drawn.ranged c.loop-triangle.invariant.3)
+    (search rules, facet_numbers (start (goal.at.put_facet-requires-2 c).At-loop-triangle).requires.0.drawn.ranged c.loop-triangle.invariant.1)
 
 pub returns : goal.returns
 returns c =
@@ -54,7 +54,7 @@ returns c =
     let n = F (length (vert (goal.at.returns c).At-loop-triangle)) - 1 in
     let last : c.loop-triangle.triangle ≡ n = omega arith in
     let all : n + 1 ≡ F (length (vert (goal.at.returns c).At-loop-triangle)) = omega arith in
-    let so_far : c.loop-triangle.part ≡ in_front (facets (vert (goal.at.returns c).At-loop-triangle) (points (goal.at.returns c).At-loop-triangle) n) d = c.loop-triangle.invariant.2 ∙ ap (λ k. in_front (facets (vert (goal.at.returns c).At-loop-triangle) (points (goal.at.returns c).At-loop-triangle) k) d) last in
-    let filled = filled_as (ap (corners (vert (goal.at.returns c).At-loop-triangle)) last) c.loop-triangle.invariant.3 in
+    let so_far : c.loop-triangle.part ≡ in_front (facets (vert (goal.at.returns c).At-loop-triangle) (points (goal.at.returns c).At-loop-triangle) n) d = c.loop-triangle.invariant.0 ∙ ap (λ k. in_front (facets (vert (goal.at.returns c).At-loop-triangle) (points (goal.at.returns c).At-loop-triangle) k) d) last in
+    let filled = filled_as (ap (corners (vert (goal.at.returns c).At-loop-triangle)) last) c.loop-triangle.invariant.1 in
     facet_written (vert (goal.at.returns c).At-loop-triangle) (points (goal.at.returns c).At-loop-triangle) d c.loop-triangle.part _ _ n so_far c.put_facet-2.ensures (facet_bytes_lem (start (goal.at.returns c).At-loop-triangle).requires.0.drawn.ranged filled)
     ∙ ap (λ k. in_front (facets (vert (goal.at.returns c).At-loop-triangle) (points (goal.at.returns c).At-loop-triangle) k) d) all

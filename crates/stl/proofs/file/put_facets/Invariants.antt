@@ -1,6 +1,4 @@
-use Prim.Native.Nat.{◌-◌, ◌≤◌}
 use mathlib.Core.Path.{◌≡◌}
-use lib.ListN.{length}
 use Rattle.laws.specs.Parts.{in_front}
 use Rattle.halfedges.specs.Corners.{corners}
 use Rattle.stl.specs.Internal.Facets.{Filled}
@@ -9,7 +7,4 @@ use Rattle.stl.proofs.file.put_facets.Given as goal
 
 abbrev pub invariant-loop-triangle : goal.invariant-loop-triangle
 invariant-loop-triangle l =
-    (l.triangle ≤ l.last) × (length l.part ≡ length l.initial.part) × (l.part ≡ in_front (facets l.vert l.points l.triangle) l.initial.part) × Filled l.points (corners l.vert l.triangle) l.facet
-
-abbrev pub decreases-loop-triangle : goal.decreases-loop-triangle
-decreases-loop-triangle l = l.last - l.triangle
+    (l.part ≡ in_front (facets l.vert l.points l.triangle) l.initial.part) × Filled l.points (corners l.vert l.triangle) l.facet

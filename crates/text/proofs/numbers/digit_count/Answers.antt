@@ -1,20 +1,14 @@
--- `digit_count` has passed digits alone, and stops at the first byte that is none.
-use borrow.Author.Count.{below_more}
-use mathlib.Core.Path.{sym, ◌∙◌}
-use native.Mathlib.Omega.{arith}
-use Rattle.text.proofs.Numerals.{stops_here, all_digits}
+-- The digits end at the first byte that is none.
+use Rattle.std.proofs.Common.{rules, tests, not}
+use Rattle.std.proofs.lemmas.Iterator.{YieldsList-from_slice}
+use Rattle.std.proofs.lemmas.Iterator.Search.{position_from_yields_List}
+use Rattle.laws.proofs.Position.{found_lowest}
+use Rattle.text.specs.Numbers.{is_digit, digit_count}
 use Rattle.text.proofs.numbers.digit_count.Goals as goal
 
-pub loop-digits-init : goal.loop-digits-init
-loop-digits-init c = (omega arith, λ j l. absurd (omega arith))
-
-pub returns-then-not-is_digit : goal.returns-then-not-is_digit
-returns-then-not-is_digit c =
-    stops_here _ _ (omega arith) c.loop-digits.invariant.1 (sym c.is_digit.ensures ∙ c.if-not-is_digit.true)
-
-pub loop-digits-preserved : goal.loop-digits-preserved
-loop-digits-preserved c =
-    (omega arith, below_more _ _ c.loop-digits.invariant.1 (sym c.is_digit.ensures ∙ c.if-not-is_digit.false))
-
 pub returns : goal.returns
-returns c = all_digits _ _ (omega arith) c.loop-digits.invariant.1
+unfolding digit_count is_digit
+returns c =
+    let text = c.args.text.now in
+    let found = position_from_yields_List (λ byte. not (is_digit byte)) _ _ c.position.result c.position.ensures.ran (YieldsList-from_slice text cc) (λ x b q k. search (rules, tests)) in
+    found_lowest (λ byte. not (is_digit byte)) 0 text _ _ found c.unwrap_or.ensures
