@@ -175,6 +175,7 @@ fn read_triangle(
 }
 
 // A triangle's part in the points of its edges, of which some may be borders.
+// This and the next are two, since one that took the step would have to say what each call leaves behind `points`, at more length.
 fn write_any(points: &mut [i32], vertices: usize, triangle: Triangle)
     requires { AskedInTurn (Asks vertices) (step_edge vertices) triangle points.old }
     ensures { points.new ≡ in_turn (step_edge vertices) triangle points.old }

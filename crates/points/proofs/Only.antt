@@ -1,22 +1,21 @@
 -- What stores leave in the other cells (`Only`), and in the three cells of a point (`put_hit`, `put_only`, `changed_is`); numbers are stored
--- as they are (`near_stored`, `near_kept`, `put_stored`). Assumes nothing.
-use Prim.Native.Nat.{ℕ, zero, suc, ◌+◌, ◌^◌, ◌≤◌, ◌<◌}
+-- as they are (`near_stored`, `near_kept`). Assumes nothing.
+use Prim.Native.Nat.{ℕ, zero, suc, ◌+◌, ◌≤◌, ◌<◌}
 use mathlib.Core.Path.{◌≡◌, refl, sym, ◌∙◌}
 use mathlib.Core.List.{List}
 use native.Mathlib.Nat.{add-zero}
 use native.Mathlib.Omega.{arith}
 use lib.IntN.{ℤ, pos, nat_abs}
-use lib.Signed.{mag}
 use lib.ListN.{length, take, set, length-set}
 use lib.Seq.{get_or-set_same, get_or-set_other, get_or-take, length-take-le, ext_get_or}
 use mir.Syntax.{w32}
 use mir.Val.{to_z, of_z}
 use mir.Facts.{to_z-of_z}
 use Rattle.laws.specs.Internal.Steps.{steps}
-use Rattle.laws.proofs.Integers.{small_fits, back_of}
+use Rattle.laws.proofs.Integers.{small_fits}
 use Rattle.laws.proofs.Steps.{steps_keep}
 use Rattle.points.specs.Operations.{most_coordinate}
-use Rattle.points.specs.Internal.Cells.{value, put, xyz, Changed, Near}
+use Rattle.points.specs.Internal.Cells.{value, put, Changed, Near}
 
 -- a law of a point's three coordinates
 pub three : (P : ℕ → Type 0) → P 0 → P 1 → P 2 → (k : ℕ) → k < 3 → P k
@@ -107,8 +106,3 @@ module _ (p : List ℤ) (near : Near p) (k : ℕ) (l : k < 3) where
 
   pub near_kept : nat_abs (stored (value p k)) ≤ most_coordinate
   near_kept = rw near_stored (near k l)
-
--- three numbers worked out and then stored
-pub put_stored : (to : ℕ) (g : ℕ → ℤ) (l : List ℤ) {m : List ℤ} {x y z : ℤ} → mag x < 2 ^ 31 → mag y < 2 ^ 31 → mag z < 2 ^ 31 → m ≡ put to (xyz (stored x) (stored y) (stored z)) l → x ≡ g 0 → y ≡ g 1 → z ≡ g 2 → m ≡ put to g l
-put_stored to g l {m} {x} {y} {z} fx fy fz e ex ey ez =
-    e ∙ put_same to (xyz (stored x) (stored y) (stored z)) g l (back_of w32 x fx ∙ ex) (back_of w32 y fy ∙ ey) (back_of w32 z fz ∙ ez)

@@ -34,10 +34,8 @@ fn sum_points(p: [i32; 3], q: [i32; 3], r: [i32; 3]) -> [i32; 3]
     requires { NearThree p q r }
     ensures { result ≡ sum_of p q r }
 {
-    let x = sum_three(p[0], q[0], r[0]);
-    let y = sum_three(p[1], q[1], r[1]);
-    let z = sum_three(p[2], q[2], r[2]);
-    [x, y, z]
+    let sum = |k: usize| sum_three(p[k], q[k], r[k]);
+    [sum(0), sum(1), sum(2)]
 }
 
 // A third of the twelve spokes: from a corner x, at p, to the vertex after it, at q; and from the one before it to both of those

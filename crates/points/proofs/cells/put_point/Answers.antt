@@ -1,12 +1,7 @@
 -- `put_point` makes the three stores of its definition.
-use native.Mathlib.Omega.{arith}
-use lib.ListN.{length-set}
 use mir.Facts.{to_z-of_z}
 use Rattle.points.specs.Internal.Cells.{put}
 use Rattle.points.proofs.cells.put_point.Goals as goal
-
-pub bounds-points-to-2 : goal.bounds-points-to-2
-bounds-points-to-2 c = simp length-set (omega arith)
 
 pub returns : goal.returns
 unfolding put

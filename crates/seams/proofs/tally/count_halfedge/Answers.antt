@@ -21,10 +21,6 @@ module _ (a : After-stays_sharp) where
 pub returns-then-twin-halfedge : goal.returns-then-twin-halfedge
 returns-then-twin-halfedge c = border-added _ _ _ _ _ c.if-twin-halfedge.true c.count_ends.ensures
 
-pub stays_sharp-requires : goal.stays_sharp-requires
-stays_sharp-requires c =
-    omega (arith, c.wide.ensures, c.requires.0.numbered c.args.halfedge c.requires.1)
-
 pub count_one-requires : goal.count_one-requires
 count_one-requires c = λ l. omega (arith, (s (goal.at.count_one-requires c).After-stays_sharp).requires.2 _ l)
 

@@ -11,9 +11,6 @@ use Rattle.spokes.proofs.fours.add_fours.Goals as goal
 pub loop-triangle-init : goal.loop-triangle-init
 loop-triangle-init c = sym (steps_none _ _)
 
-pub four_of-four-requires : goal.four_of-four-requires
-four_of-four-requires c = omega (arith, c.requires.1.long, c.requires.1.whole)
-
 pub add_four-requires : goal.add_four-requires
 add_four-requires c =
     let gathers = c.requires.0 in

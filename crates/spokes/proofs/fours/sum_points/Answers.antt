@@ -3,6 +3,7 @@ use Prim.Native.Nat.{ℕ, ◌≤◌, ◌<◌}
 use mathlib.Core.Path.{◌≡◌, ◌∙◌}
 use mathlib.Core.List.{[], ◌∷◌}
 use native.Mathlib.Omega.{arith}
+use borrow.Author.Rules.{rules}
 use lib.IntN.{nat_abs, ◌+ℤ◌}
 use mir.Syntax.{w32}
 use Rattle.laws.proofs.Integers.{back_of}
@@ -20,18 +21,15 @@ module _ (s : Start) (k : ℕ) (l : k < 3) where
   learnt : stored (value s.args.p k) +ℤ stored (value s.args.q k) +ℤ stored (value s.args.r k) ≡ sum_at s.args.p s.args.q s.args.r k
   learnt = rw (near_stored s.args.p s.requires.first k l, near_stored s.args.q s.requires.second k l, near_stored s.args.r s.requires.third k l)
 
-pub sum_three-x-requires : goal.sum_three-x-requires
-sum_three-x-requires c = asked (goal.at.sum_three-x-requires c).Start 0 (omega arith)
+pub sum-requires-2-asks-sum_three-requires : goal.sum-requires-2-asks-sum_three-requires
+sum-requires-2-asks-sum_three-requires c s = λ t p x r h i j u. asked (goal.at.sum-requires-2-asks-sum_three-requires c).Start 1 (omega arith)
 
-pub sum_three-y-requires : goal.sum_three-y-requires
-sum_three-y-requires c = asked (goal.at.sum_three-y-requires c).Start 1 (omega arith)
-
-pub sum_three-z-requires : goal.sum_three-z-requires
-sum_three-z-requires c = asked (goal.at.sum_three-z-requires c).Start 2 (omega arith)
+pub sum-requires-3-asks-sum_three-requires : goal.sum-requires-3-asks-sum_three-requires
+sum-requires-3-asks-sum_three-requires c s = λ t p x r h i j u. asked (goal.at.sum-requires-3-asks-sum_three-requires c).Start 2 (omega arith)
 
 pub returns : goal.returns
-returns z =
-    λ i. (back_of w32 _ z.sum_three-x.type_inv ∙ z.sum_three-x.ensures ∙ learnt (goal.at.returns z).Start 0 (omega arith)) i
-    ∷ (back_of w32 _ z.sum_three-y.type_inv ∙ z.sum_three-y.ensures ∙ learnt (goal.at.returns z).Start 1 (omega arith)) i
-    ∷ (back_of w32 _ z.sum_three-z.type_inv ∙ z.sum_three-z.ensures ∙ learnt (goal.at.returns z).Start 2 (omega arith)) i
-    ∷ []
+returns c =
+    let x : c.sum.result ≡ sum_at c.args.p c.args.q c.args.r 0 = search (rules, c.sum.ensures, learnt (goal.at.returns c).Start 0 (omega arith)) in
+    let y : c.sum-2.result ≡ sum_at c.args.p c.args.q c.args.r 1 = search (rules, c.sum-2.ensures, learnt (goal.at.returns c).Start 1 (omega arith)) in
+    let z : c.sum-3.result ≡ sum_at c.args.p c.args.q c.args.r 2 = search (rules, c.sum-3.ensures, learnt (goal.at.returns c).Start 2 (omega arith)) in
+    λ i. (back_of w32 _ c.sum.type_inv ∙ x) i ∷ (back_of w32 _ c.sum-2.type_inv ∙ y) i ∷ (back_of w32 _ c.sum-3.type_inv ∙ z) i ∷ []

@@ -13,9 +13,6 @@ use Rattle.spokes.proofs.spokes.add_spokes.Goals as goal
 pub loop-triangle-init : goal.loop-triangle-init
 loop-triangle-init c = sym (steps_none _ _)
 
-pub corners_of-corners-requires : goal.corners_of-corners-requires
-corners_of-corners-requires c = omega arith
-
 pub add_triangle-requires : goal.add_triangle-requires
 add_triangle-requires c =
     let n = c.args.vertices in

@@ -34,12 +34,6 @@ asks_own b =
 pub loop-i-init : goal.loop-i-init
 loop-i-init c = sym (steps_none _ _)
 
-pub offset_bounds-own-i : goal.offset_bounds-own-i
-offset_bounds-own-i c = omega arith
-
-pub bounds-own-i : goal.bounds-own-i
-bounds-own-i c = omega arith
-
 pub settle_cell-requires : goal.settle_cell-requires
 settle_cell-requires c =
     let asks = asks_own (goal.at.settle_cell-requires c).In-loop-i in
