@@ -2,6 +2,7 @@
 ghost use Rattle.std.specs.Prelude.{◌≡◌, ℕ, ◌+◌, ◌*◌, ◌<◌, length};
 ghost use Rattle.laws.specs.Internal.Steps.{steps};
 ghost use Rattle.halfedges.specs.Cage.{cell};
+ghost use Rattle.tables.specs.Tables.{held};
 ghost use Rattle.points.specs.Internal.Cells.{put, Near};
 ghost use Rattle.edgepoints.specs.Internal.Edges.{Spanned, AsksFinish, AsksMeet, AsksInner, Asks, Readable, AskedInTurn, Edged, Started};
 ghost use Rattle.edgepoints.specs.Internal.Edges.{middle, start, finish, meeting, meet, border_edge, inner_edge, step_edge, in_turn, put_edge};
@@ -10,6 +11,7 @@ ghost use Rattle.edgepoints.specs.Internal.Edges.{corner_of, between, triangle_o
 use halfedges::table::HalfedgeTable;
 use points::cells::{change_point, point_of};
 use points::rules::{border_edge, border_vertex, finished_edge, started_edge};
+use tables::Tables;
 
 // A corner of a triangle: its vertex, and where that is.
 #[derive(Clone, Copy)]
@@ -127,20 +129,19 @@ pub fn read_corner(vert: &[u32], points: &[i32], halfedge: usize) -> Corner
 
 // A halfedge between two corners of its triangle, opposite to the third.
 fn read_halfedge(
-    twin: &[u32],
-    edge: &[u32],
+    level: &Tables,
     number: usize,
     from: Corner,
     to: Corner,
     opposite: Corner,
 ) -> Halfedge
-    requires { (number < length twin.now) × (number < length edge.now) }
-    ensures { result ≡ between twin.now edge.now number from to opposite }
+    requires { (number < length level.now.twin.now) × (number < length level.now.edge.now) }
+    ensures { result ≡ between level.now.twin.now level.now.edge.now number from to opposite }
 {
     Halfedge {
         number,
-        twin: twin[number],
-        edge: edge[number],
+        twin: level.twin[number],
+        edge: level.edge[number],
         from,
         to,
         opposite,
@@ -148,25 +149,19 @@ fn read_halfedge(
 }
 
 // What a triangle has of the tables, and its corners' points.
-fn read_triangle(
-    twin: &[u32],
-    vert: &[u32],
-    edge: &[u32],
-    points: &[i32],
-    triangle: usize,
-) -> Triangle
-    requires { Readable twin.now vert.now edge.now points.now triangle }
-    ensures { result ≡ triangle_of twin.now vert.now edge.now points.now triangle }
+fn read_triangle(level: &Tables, points: &[i32], triangle: usize) -> Triangle
+    requires { let c = held level.now in Readable c.twin c.vert c.edge points.now triangle }
+    ensures { let c = held level.now in result ≡ triangle_of c.twin c.vert c.edge points.now triangle }
 {
     let one = 3 * triangle;
     let two = one + 1;
     let three = one + 2;
-    let a = read_corner(vert, points, one);
-    let b = read_corner(vert, points, two);
-    let c = read_corner(vert, points, three);
-    let first = read_halfedge(twin, edge, one, a, b, c);
-    let second = read_halfedge(twin, edge, two, b, c, a);
-    let third = read_halfedge(twin, edge, three, c, a, b);
+    let a = read_corner(level.vert, points, one);
+    let b = read_corner(level.vert, points, two);
+    let c = read_corner(level.vert, points, three);
+    let first = read_halfedge(level, one, a, b, c);
+    let second = read_halfedge(level, two, b, c, a);
+    let third = read_halfedge(level, three, c, a, b);
     Triangle {
         first,
         second,
@@ -206,21 +201,13 @@ fn border_among(triangle: Triangle) -> bool
 
 // A triangle's part in the points of its edges. Few triangles lie on a border: the rest go by shorter code, of which the compiler
 // makes one loop without a call.
-fn write_triangle(
-    twin: &[u32],
-    vert: &[u32],
-    edge: &[u32],
-    points: &mut [i32],
-    vertices: usize,
-    triangle: usize,
-)
-    requires { (Readable twin.now vert.now edge.now points.old triangle)
-        × (AskedInTurn (Asks vertices) (step_edge vertices)
-        (triangle_of twin.now vert.now edge.now points.old triangle) points.old) }
-    ensures { points.new ≡ in_turn (step_edge vertices)
-        (triangle_of twin.now vert.now edge.now points.old triangle) points.old }
+fn write_triangle(level: &Tables, points: &mut [i32], vertices: usize, triangle: usize)
+    requires { let c = held level.now in (Readable c.twin c.vert c.edge points.old triangle)
+        × (AskedInTurn (Asks vertices) (step_edge vertices) (triangle_of c.twin c.vert c.edge points.old triangle) points.old) }
+    ensures { let c = held level.now in points.new
+        ≡ in_turn (step_edge vertices) (triangle_of c.twin c.vert c.edge points.old triangle) points.old }
 {
-    let read = read_triangle(twin, vert, edge, points, triangle);
+    let read = read_triangle(level, points, triangle);
     if border_among(read) {
         write_any(points, vertices, read);
         return;
@@ -229,14 +216,14 @@ fn write_triangle(
 }
 
 // The points of all edges, and V.2 at the border: the part of every halfedge, triangle by triangle.
-pub fn write_edges(twin: &[u32], vert: &[u32], edge: &[u32], points: &mut [i32], vertices: usize)
-    requires { (Edged twin.now vert.now edge.now vertices points.old)
-        × ((h : ℕ) → h < length vert.now → Started twin.now edge.now vertices h
-        (steps h (put_edge twin.now vert.now edge.now vertices points.old) points.old)) }
-    ensures { points.new ≡ steps (length vert.now)
-        (put_edge twin.now vert.now edge.now vertices points.old) points.old }
+pub fn write_edges(level: &Tables, points: &mut [i32], vertices: usize)
+    requires { let c = held level.now in (Edged c.twin c.vert c.edge vertices points.old)
+        × ((h : ℕ) → h < length c.vert → Started c.twin c.edge vertices h
+        (steps h (put_edge c.twin c.vert c.edge vertices points.old) points.old)) }
+    ensures { let c = held level.now in points.new
+        ≡ steps (length c.vert) (put_edge c.twin c.vert c.edge vertices points.old) points.old }
 {
-    for triangle in 0..vert.len() / 3 {
-        write_triangle(twin, vert, edge, points, vertices, triangle);
+    for triangle in 0..level.vert.len() / 3 {
+        write_triangle(level, points, vertices, triangle);
     }
 }

@@ -2,15 +2,18 @@
 --     moved_says       what is told and what stands at the front is the reply, within what was lent (`says_counts`)
 --     front_moved      a buffer that holds more than the longest file that reads holds enough of any: its bytes get the reply of the whole
 use Prim.Native.Nat.{ℕ, ◌≤◌, ◌<◌}
+use Rattle.std.specs.Prelude.{Result, Ok, Err, IfOk, IfErr}
 use mathlib.Core.Path.{◌≡◌, sym, ap, ◌∙◌}
 use mathlib.Core.Logic.{◌≢◌}
 use mathlib.Core.List.{List, [], ◌∷◌}
-use native.Mathlib.Decide.{ℕ_discrete, dec_lt}
+use native.Mathlib.Decide.{dec_lt}
 use native.Mathlib.Omega.{arith}
 use lib.ListN.{length, take, drop, length-append}
 use lib.Seq.{take_all, length-take-le}
-use borrow.Author.Tests.{eq-eqb, ne_eqb}
-use Rattle.halfedges.specs.Refusals.{told, first, said, filled}
+use borrow.Author.Tests.{ne_eqb}
+use Rattle.halfedges.specs.declared.refusal.Refusal.{Refusal}
+use Rattle.halfedges.specs.Refusals.{refused as refusals_refused, first, said, filled}
+use Rattle.halfedges.proofs.Told.{refused_number}
 use Rattle.halfedges.proofs.Checks.{first_refused_before}
 use Rattle.cagefile.specs.declared.fields.Form.{Form}
 use Rattle.cagefile.specs.declared.fields.Form.TheVariants.{One, Two}
@@ -19,7 +22,6 @@ use Rattle.filechecks.specs.Contents.{cage_in}
 use Rattle.filechecks.specs.FileChecks.{file_checks}
 use Rattle.filechecks.proofs.Sound.{longest}
 use Rattle.filelaws.proofs.Prefix.{too_long, longer_alike}
-use Rattle.writing.specs.declared.Writing.{Writing}
 use Rattle.writing.specs.Writing.{written, wrote}
 use Rattle.moves.specs.Moves.{cage_moves, move_checks, move_verdict, move}
 use Rattle.moves.proofs.Moved.{roomy_moves}
@@ -46,37 +48,38 @@ module _ (from : Form) (f : List ℕ) where
   roomy_verdict Two lent e = roomy_moves from Two f lent (omega arith)
 
 module _ (from to : Form) (f : List ℕ) where
-  module _ (before between after : List ℕ) (long : length before ≡ most) (m : Writing) (r : Written)
-      (left : (wrote m ≡ (move from to f before).answer) × (between ≡ (move from to f before).file)) where
-    verdict : told m.answer ≡ first (move_checks from to f)
+  module _ (before between after : List ℕ) (long : length before ≡ most) (r : Written) where
+    -- the move told x, and left what stands between
+    abbrev Moved : Result ℕ Refusal → Type 0
+    Moved x = (wrote x ≡ (move from to f before).answer) × (between ≡ (move from to f before).file)
+
+    verdict : (x : Result ℕ Refusal) → Moved x → (wrote x).verdict ≡ first (move_checks from to f)
     unfolding move written said
-    verdict = ap (λ s. s.verdict) left.0 ∙ roomy_verdict from f to before long
+    verdict x left = ap (λ s. s.verdict) left.0 ∙ roomy_verdict from f to before long
 
-    refused_says : (n : (told m.answer).number ≢ 0) → Replied between 50 (refused (told m.answer)) after r → Says (moving from to f) before after r
+    refused_says : (q : Refusal) → Moved (Err q) → Replied between 50 (refused (refusals_refused q)) after r → Says (moving from to f) before after r
     unfolding moving move written filled refused
-    refused_says n p =
-        let here = ne_eqb (told m.answer).number 0 n in
-        let same : between ≡ before = left.1 ∙ rw (roomy_verdict from f to before long, ← verdict, here) in
-        record { status = rw (← verdict, here) p.status; text = rw (← verdict, here, ← same) p.put.bytes; ends = rw (← verdict, here) (omega (arith, p.put.ends)) }
+    refused_says q left p =
+        let told = verdict (Err q) left in
+        let here = ne_eqb (refusals_refused q).number 0 (refused_number q) in
+        let same : between ≡ before = left.1 ∙ rw (roomy_verdict from f to before long, ← told, here) in
+        record { status = rw (← told, here) p.status; text = rw (← told, here, ← same) p.put.bytes; ends = rw (← told, here) (omega (arith, p.put.ends)) }
 
-    done_says : (told m.answer).number ≡ 0 → (r ≡ record { status = Answered; length = m.length }) × (after ≡ between) → Says (moving from to f) before after r
+    done_says : (n : ℕ) → Moved (Ok n) → (r ≡ record { status = Answered; length = n }) × (after ≡ between) → Says (moving from to f) before after r
     unfolding moving move written said filled
-    done_says z p =
-        let here = eq-eqb (told m.answer).number 0 z in
-        let size : m.length ≡ length (file to (cage_in f)) = ap (λ s. s.values) left.0 ∙ rw (roomy_verdict from f to before long, ← verdict, here) in
+    done_says n left p =
+        let told = verdict (Ok n) left in
+        let size : n ≡ length (file to (cage_in f)) = ap (λ s. s.values) left.0 ∙ rw (roomy_verdict from f to before long, ← told) in
         record {
-          status = rw (← verdict, here) (ap (λ w. status_number w.status) p.0);
-          text = rw (← verdict, here) (p.1 ∙ left.1 ∙ rw (roomy_verdict from f to before long, ← verdict, here));
-          ends = rw (← verdict, here) (ap (λ w. w.length) p.0 ∙ size);
+          status = rw (← told) (ap (λ w. status_number w.status) p.0);
+          text = rw (← told) (p.1 ∙ left.1 ∙ rw (roomy_verdict from f to before long, ← told));
+          ends = rw (← told) (ap (λ w. w.length) p.0 ∙ size);
         }
 
-    pub moved_says : ((told m.answer).number ≢ 0 → Replied between 50 (refused (told m.answer)) after r)
-        → ((told m.answer).number ≡ 0 → (r ≡ record { status = Answered; length = m.length }) × (after ≡ between)) → Says (moving from to f) before after r
-    moved_says p q = by (ℕ_discrete (told m.answer).number 0)
-      where
-        by : Dec ((told m.answer).number ≡ 0) → Says (moving from to f) before after r
-        by (yes z) = done_says z (q z)
-        by (no n) = refused_says n (p n)
+    pub moved_says : (x : Result ℕ Refusal) → Moved x → IfErr x (λ q. Replied between 50 (refused (refusals_refused q)) after r)
+        → IfOk x (λ n. (r ≡ record { status = Answered; length = n }) × (after ≡ between)) → Says (moving from to f) before after r
+    moved_says (Ok n) left p q = done_says n left q
+    moved_says (Err e) left p q = refused_says e left p
 
   -- a file whose checks refuse it is refused by the move
   refused-first : (first (file_checks (from ∷ []) f)).number ≢ 0 → moving from to f ≡ refused (first (file_checks (from ∷ []) f))

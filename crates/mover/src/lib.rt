@@ -1,9 +1,9 @@
 // A cage file moved from a form to a form, as the programs of the moves do it: the new file, or the refusal.
 #![tactic(auto)]
 
-ghost use Rattle.std.specs.Prelude.{◌≡◌, ◌≢◌, ◌≤◌, ◌<◌, length};
+ghost use Rattle.std.specs.Prelude.{◌≡◌, ◌≤◌, ◌<◌, length, IfOk, IfErr};
 ghost use Rattle.io.specs.Counts.{IsPrefixLen};
-ghost use Rattle.halfedges.specs.Refusals.{told};
+ghost use Rattle.halfedges.specs.Refusals.{refused as refusals_refused};
 ghost use Rattle.text.specs.declared.replies.Status.TheVariants.{Answered};
 ghost use Rattle.text.specs.Replies.{refused, Says};
 ghost use Rattle.text.specs.Internal.Put.{Replied};
@@ -11,9 +11,9 @@ ghost use Rattle.intake.specs.Internal.Buffer.{longest};
 ghost use Rattle.mover.specs.Moving.{moving};
 
 use cagefile::fields::Form;
+use halfedges::refusal::Refusal;
 use text::replies::{Status, Written};
 use text::{replies, streams};
-use writing::Writing;
 
 // What the longest file takes.
 const LONGEST: usize = 46111;
@@ -45,18 +45,16 @@ pub fn reply(file: &[u8], from: Form, to: Form, out: &mut [u8; LONGEST]) -> Writ
 }
 
 // The reply to a move. Where it is done the file stands at the front of out already.
-fn put_reply(out: &mut [u8], moved: Writing) -> Written
+fn put_reply(out: &mut [u8], moved: Result<usize, Refusal>) -> Written
     requires { 50 ≤ length out.old }
-    ensures replied { (told moved.answer).number ≢ 0 → Replied out.old 50 (refused (told moved.answer)) out.new result }
-    ensures value { (told moved.answer).number ≡ 0
-        → (result ≡ record { status = Answered; length = moved.length }) × (out.new ≡ out.old) }
+    ensures replied { IfErr moved (λ refusal. Replied out.old 50 (refused (refusals_refused refusal)) out.new result) }
+    ensures value { IfOk moved (λ length. (result ≡ record { status = Answered; length = length }) × (out.new ≡ out.old)) }
 {
-    let answer = moved.answer;
-    if answer.number() != 0 {
-        return replies::put_refusal(&mut *out, answer);
-    }
-    Written {
-        status: Status::Answered,
-        length: moved.length,
+    match moved {
+        Ok(length) => Written {
+            status: Status::Answered,
+            length,
+        },
+        Err(refusal) => replies::put_refusal(out, refusal),
     }
 }

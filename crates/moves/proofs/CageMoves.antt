@@ -1,10 +1,9 @@
 -- The checks of a cage that moves. Assumes nothing.
---     moves_refused, moves_not_old   the check's refusal is the move's, and past it 16 is given
+--     moves_refused, moves_not_old   the check's refusal is the move's, and past the check 16 is given
 --     old_plain, plain_old           a cage with a number for each edge is plain exactly where 16 is not given
 --     plain-written                  then writing it leaves what the move does, also without its creases and weight (`old_written`)
 use Prim.Native.Nat.{ℕ, ◌≤◌}
 use mathlib.Core.Path.{◌≡◌, refl, sym, ap, ap₂, ◌∙◌}
-use mathlib.Core.Logic.{◌≢◌}
 use mathlib.Core.Bool.{true, false}
 use mathlib.Core.List.{List, [], ◌++◌, append-nil}
 use native.Mathlib.Omega.{arith}
@@ -15,8 +14,10 @@ use borrow.Author.Tests.{ltb-false}
 use Rattle.laws.specs.Below.{any}
 use Rattle.laws.proofs.Tests.{or_false, any_false, false_any}
 use Rattle.halfedges.specs.Cage.{cell, E}
-use Rattle.halfedges.specs.Refusals.{Verdict, NOT_OLD, given, first}
-use Rattle.halfedges.proofs.Checks.{is_passed, first_passed, first_stops, first_passes}
+use Rattle.halfedges.specs.declared.refusal.Refusal.{Refusal}
+use Rattle.halfedges.specs.declared.refusal.Refusal.TheVariants.{NotOld}
+use Rattle.halfedges.specs.Refusals.{Verdict, DONE, NOT_OLD, refused, given, first}
+use Rattle.halfedges.proofs.Checks.{is_passed, first_passed, stops_before, passes_before}
 use Rattle.creases.specs.Creases.{no_creases}
 use Rattle.points.specs.declared.weights.Weight.{Weight}
 use Rattle.points.specs.declared.weights.Weight.TheVariants.{Short, Paper}
@@ -31,18 +32,20 @@ use Rattle.filelaws.proofs.ReadBack.{PlainIn}
 use Rattle.filelaws.proofs.Accepted.{same_checks}
 use Rattle.moves.specs.Moves.{numbered, not_old, cage_moves, move_room}
 
--- v is the first of the checks with creases
-module _ (form : Form) (w : Cage) (lent : List ℕ) (v : Verdict) (e : v ≡ first (creased_checks w.connectivity w.creases w.points 0)) where
-  pub moves_refused : v.number ≢ 0 → v ≡ first (cage_moves form w ++ move_room form w lent)
+module _ (form : Form) (w : Cage) (lent : List ℕ) where
+  abbrev checks : List Verdict
+  checks = creased_checks w.connectivity w.creases w.points 0
+
+  pub moves_refused : (r : Refusal) → refused r ≡ first checks → refused r ≡ first (cage_moves form w ++ move_room form w lent)
   unfolding cage_moves
-  moves_refused r = first_stops (cage_moves form w) _ v (first_stops _ _ v e r) r
+  moves_refused r e = stops_before (cage_moves form w) _ r (stops_before checks _ r e)
 
-  not_old_lem : v.number ≡ 0 → not_old form w ≡ true → NOT_OLD ≡ first (cage_moves form w)
+  not_old_lem : DONE ≡ first checks → not_old form w ≡ true → NOT_OLD ≡ first (cage_moves form w)
   unfolding cage_moves first given
-  not_old_lem z n = sym (first_passes (creased_checks w.connectivity w.creases w.points 0) _ v e z ∙ rw n)
+  not_old_lem d n = sym (sym (passes_before checks _ d) ∙ rw n)
 
-  pub moves_not_old : v.number ≡ 0 → not_old form w ≡ true → NOT_OLD ≡ first (cage_moves form w ++ move_room form w lent)
-  moves_not_old z n = first_stops (cage_moves form w) _ NOT_OLD (not_old_lem z n) (λ q. omega arith)
+  pub moves_not_old : DONE ≡ first checks → not_old form w ≡ true → NOT_OLD ≡ first (cage_moves form w ++ move_room form w lent)
+  moves_not_old d n = stops_before (cage_moves form w) _ NotOld (not_old_lem d n)
 
 -- ---- plain cages
 

@@ -5,7 +5,6 @@
 --     roomy_moves           with room for the longest file of the form 9 is not given
 use Prim.Native.Nat.{ℕ, ◌*◌, ◌≤◌}
 use mathlib.Core.Path.{◌≡◌, sym, ap, ◌∙◌}
-use mathlib.Core.Logic.{◌≢◌}
 use mathlib.Core.List.{List, [], ◌∷◌, ◌++◌, append_assoc}
 use native.Mathlib.Decide.{ℕ_discrete}
 use native.Mathlib.Omega.{arith}
@@ -13,54 +12,51 @@ use lib.IntN.{ℤ}
 use lib.ListN.{length, take, replicate}
 use borrow.Author.Tests.{le-ltb}
 use Rattle.halfedges.specs.Cage.{E, most_halfedges}
-use Rattle.halfedges.specs.Refusals.{Verdict, DONE, given, short, first}
-use Rattle.halfedges.proofs.Checks.{first_zero, first_more, first_refused_before, done_both, first_stops, first_passes}
+use Rattle.halfedges.specs.declared.refusal.Refusal.{Refusal}
+use Rattle.halfedges.specs.Refusals.{DONE, refused, given, short, first}
+use Rattle.halfedges.proofs.Checks.{first_zero, first_more, first_refused_before, done_both, stops_before, passes_before}
 use Rattle.tables.specs.Tables.{Tables, tables}
-use Rattle.points.specs.declared.weights.Weight.{Weight}
-use Rattle.points.specs.Weights.{weight_of}
 use Rattle.points.specs.Operations.{creased_checks}
 use Rattle.cagefile.specs.declared.fields.Form.{Form}
 use Rattle.cagefile.specs.Fields.{Cage, file}
 use Rattle.reading.specs.declared.Reading.{Reading}
-use Rattle.filechecks.specs.Contents.{weight_in, cage_in}
+use Rattle.filechecks.specs.Contents.{cage_in}
 use Rattle.filechecks.specs.FileChecks.{file_checks}
 use Rattle.reading.specs.Internal.Fronts.{Fronts}
 use Rattle.reading.proofs.Fronts.{creases_there}
 use Rattle.writing.specs.Writing.{written}
 use Rattle.filechecks.proofs.Sound.{longest}
-use Rattle.filelaws.proofs.Contents.{weight_read}
 use Rattle.filelaws.proofs.Accepted.{accepted-length}
 use Rattle.moves.specs.Moves.{cage_moves, move_checks, move_room, move_verdict, move}
 use Rattle.moves.proofs.CageMoves.{moved}
 
 -- the cage at the fronts of tables, with so many creases
-abbrev cage_at : Reading → Tables → List ℤ → List ℕ → ℕ → Weight → Cage
-cage_at r now points creases edges weight =
+abbrev cage_at : Reading → Tables → List ℤ → List ℕ → ℕ → Cage
+cage_at r now points creases edges =
     record {
       connectivity = tables (take r.halfedges now.twin) (take r.halfedges now.vert) (take r.halfedges now.edge);
       points = take (3 * r.vertices) points;
       creases = take edges creases;
-      weight = weight;
+      weight = r.weight;
     }
 
 pub cage_there : (f : List ℕ) (r : Reading) (now : Tables) (points : List ℤ) (creases : List ℕ) → Fronts f r now points (replicate most_halfedges 0) creases
-    → (edges : ℕ) → edges ≡ E (take r.halfedges now.twin) → (weight : Weight) → weight ≡ weight_of r.weight → cage_at r now points creases edges weight ≡ cage_in f
+    → (edges : ℕ) → edges ≡ E (take r.halfedges now.twin) → cage_at r now points creases edges ≡ cage_in f
 unfolding cage_in
-cage_there f r now points creases s edges e weight q =
-    rw (e, q, s.twin, s.vert, s.edge, s.coordinates, creases_there f r now points creases s, s.weight, weight_read (weight_in f))
+cage_there f r now points creases s edges e =
+    rw (e, s.twin, s.vert, s.edge, s.coordinates, creases_there f r now points creases s, s.weight)
 
--- v is the first of reading's
-module _ (from to : Form) (f lent : List ℕ) (v : Verdict) (e : v ≡ first (file_checks (from ∷ []) f)) where
-  pub unread_moves : v.number ≢ 0 → v ≡ move_verdict from to f lent
+module _ (from to : Form) (f lent : List ℕ) where
+  pub unread_moves : (r : Refusal) → refused r ≡ first (file_checks (from ∷ []) f) → refused r ≡ move_verdict from to f lent
   unfolding move_verdict move_checks
-  unread_moves r = first_stops (move_checks from to f) _ v (first_stops _ _ v e r) r
+  unread_moves r e = stops_before (move_checks from to f) _ r (stops_before _ _ r e)
 
-  pub read_moves : v.number ≡ 0 → (w : Cage) → w ≡ cage_in f → moved to w lent ≡ move from to f lent
+  pub read_moves : DONE ≡ first (file_checks (from ∷ []) f) → (w : Cage) → w ≡ cage_in f → moved to w lent ≡ move from to f lent
   unfolding move move_verdict move_checks
-  read_moves z w q =
+  read_moves d w q =
       let files = file_checks (from ∷ []) f in
       ap (λ u. moved to u lent) q
-      ∙ ap (λ u. written u (file to (cage_in f)) lent) (sym (ap first (append_assoc files _ _) ∙ first_passes files _ v e z))
+      ∙ ap (λ u. written u (file to (cage_in f)) lent) (passes_before files _ d ∙ sym (ap first (append_assoc files _ _)))
 
 -- ---- room for the longest file is room for any
 

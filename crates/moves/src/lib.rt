@@ -1,28 +1,28 @@
 // The moves between the forms of a cage file: a file is read into tables on the stack, and its cage written in the other form.
 #![tactic(auto)]
 
-ghost use Rattle.std.specs.Prelude.{◌≡◌, [], ◌∷◌, ◌++◌, length};
+ghost use Rattle.std.specs.Prelude.{◌≡◌, [], ◌∷◌, ◌++◌, length, IfOk};
 ghost use Rattle.cagefile.specs.declared.fields.Form.TheVariants.{One, Two};
 ghost use Rattle.halfedges.specs.Cage.{E};
 ghost use Rattle.halfedges.specs.Refusals.{told, first};
 ghost use Rattle.tables.specs.Tables.{tables};
-ghost use Rattle.cagefile.specs.Fields.{Cage, file as fields_file};
+ghost use Rattle.cagefile.specs.Fields.{file as fields_file};
 ghost use Rattle.filechecks.specs.FileChecks.{file_checks};
 ghost use Rattle.reading.specs.Internal.Fronts.{Ample, Fronts};
-ghost use Rattle.writing.specs.Writing.{wrote, written};
+ghost use Rattle.writing.specs.Writing.{weighted, wrote, written};
 ghost use Rattle.moves.specs.Moves.{numbered, cage_moves, move_room, move};
 
+use cage::Cage;
 use cagefile::fields::Form;
-use halfedges::answer::Answer;
+use halfedges::refusal::Refusal;
 use halfedges::table::HalfedgeTable;
 use points::weights::Weight;
 use reading::Reading;
 use seams::sharp;
-use tables::rules;
-use writing::Writing;
+use tables::{Tables, rules};
 
 // The move of a file of form 1 to form 2, with zeros for creases and the short weight.
-pub fn to_form_2(file: &[u8], lent: &mut [u8]) -> Writing
+pub fn to_form_2(file: &[u8], lent: &mut [u8]) -> Result<usize, Refusal>
     ensures { let after = move One Two file.now lent.old in
         (wrote result ≡ after.answer) × (lent.new ≡ after.file) }
 {
@@ -30,15 +30,15 @@ pub fn to_form_2(file: &[u8], lent: &mut [u8]) -> Writing
 }
 
 // The move back, of a file of form 2 whose crease numbers and weight are all 0.
-pub fn to_form_1(file: &[u8], lent: &mut [u8]) -> Writing
+pub fn to_form_1(file: &[u8], lent: &mut [u8]) -> Result<usize, Refusal>
     ensures { let after = move Two One file.now lent.old in
         (wrote result ≡ after.answer) × (lent.new ≡ after.file) }
 {
     move_file(file, Form::Two, Form::One, lent)
 }
 
-// The move of a file from a form to a form.
-pub fn move_file(file: &[u8], from: Form, to: Form, lent: &mut [u8]) -> Writing
+// The move of a file from a form to a form. Answers the length of the file that it writes.
+pub fn move_file(file: &[u8], from: Form, to: Form, lent: &mut [u8]) -> Result<usize, Refusal>
     ensures { let after = move from to file.now lent.old in
         (wrote result ≡ after.answer) × (lent.new ≡ after.file) }
 {
@@ -55,25 +55,22 @@ pub fn move_file(file: &[u8], from: Form, to: Form, lent: &mut [u8]) -> Writing
         &mut edge,
         &mut points,
         &mut creases,
-    );
-    let answer = read.answer;
-    if answer.number() != 0 {
-        return Writing { answer, length: 0 };
-    }
+    )?;
     let halfedges = read.halfedges;
     let coordinates = 3 * read.vertices;
     // of form 1 the creases are still zeros, of which the cage has one for each edge
     let edges = rules::count_edges(&twin[..halfedges]);
-    write_form(
-        to,
-        &twin[..halfedges],
-        &vert[..halfedges],
-        &edge[..halfedges],
-        &points[..coordinates],
-        &creases[..edges],
-        Weight::numbered(read.weight),
-        lent,
-    )
+    let tables = Tables {
+        twin: &twin[..halfedges],
+        vert: &vert[..halfedges],
+        edge: &edge[..halfedges],
+    };
+    let cage = Cage {
+        tables,
+        points: &points[..coordinates],
+        creases: &creases[..edges],
+    };
+    write_form(to, &cage, read.weight, lent)
 }
 
 // Reads a file that is to have a form into tables that have room for any cage.
@@ -85,57 +82,33 @@ fn read_form(
     edge: &mut [u32],
     points: &mut [i32],
     creases: &mut [u8],
-) -> Reading
+) -> Result<Reading, Refusal>
     requires { Ample (tables twin.old vert.old edge.old) points.old creases.old }
-    ensures answer_value { told result.answer ≡ first (file_checks (form ∷ []) file.now) }
-    ensures fronts { (told result.answer).number ≡ 0 → Fronts file.now result (tables twin.new vert.new edge.new)
-        points.new creases.old creases.new }
+    ensures answer_value { told result ≡ first (file_checks (form ∷ []) file.now) }
+    ensures fronts { let now = tables twin.new vert.new edge.new in
+        IfOk result (λ read. Fronts file.now read now points.new creases.old creases.new) }
 {
-    let answer = filechecks::form_refusal(file, form);
-    if answer.number() != 0 {
-        return Reading::refused(answer);
-    }
-    reading::read(
-        file,
-        &mut *twin,
-        &mut *vert,
-        &mut *edge,
-        &mut *points,
-        &mut *creases,
-    )
+    filechecks::check_form(file, form)?;
+    reading::read(file, twin, vert, edge, points, creases)
 }
 
 // Writes the file of a cage in a form, for form 1 where crease numbers and weight are all 0. Then the check without creases answers as the
 // one with them, so that no cage is checked twice.
-fn write_form(
-    form: Form,
-    twin: &[u32],
-    vert: &[u32],
-    edge: &[u32],
-    points: &[i32],
-    creases: &[u8],
-    weight: Weight,
-    lent: &mut [u8],
-) -> Writing
-    requires { length creases.now ≡ E twin.now }
-    ensures { let c = tables twin.now vert.now edge.now in
-        let w : Cage = record { connectivity = c; points = points.now; creases = creases.now; weight = weight } in
+fn write_form(form: Form, cage: &Cage, weight: Weight, lent: &mut [u8]) -> Result<usize, Refusal>
+    requires { length cage.now.creases.now ≡ E cage.now.tables.twin.now }
+    ensures { let w = weighted cage.now weight in
         let after = written (first (cage_moves form w ++ move_room form w lent.old)) (fields_file form w) lent.old in
         (wrote result ≡ after.answer) × (lent.new ≡ after.file) }
 {
-    if let Form::Two = form {
-        return writing::write_form_2(twin, vert, edge, points, creases, weight, lent);
-    }
-    if !is_numbered(creases, weight) {
-        return writing::write(twin, vert, edge, points, lent);
-    }
-    let answer = cage::check_for_refining(twin, vert, edge, points, creases, 0, Weight::Short);
-    if answer.number() != 0 {
-        return Writing { answer, length: 0 };
-    }
-    Writing {
-        answer: Answer::NotOld,
-        length: 0,
+    match form {
+        Form::One => {
+            if !is_numbered(cage.creases, weight) {
+                return writing::write(&cage.tables, cage.points, lent);
+            }
+            cage.check_for_refining(0, Weight::Short)?;
+            Err(Refusal::NotOld)
+        }
+        Form::Two => writing::write_form_2(cage, weight, lent),
     }
 }
 

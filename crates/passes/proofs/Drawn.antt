@@ -12,7 +12,7 @@ use borrow.Author.Tests.{ltb-false}
 use Rattle.laws.specs.Internal.Steps.{steps}
 use Rattle.halfedges.specs.declared.table.HalfedgeTable.{HalfedgeTable}
 use Rattle.halfedges.specs.Cage.{cell}
-use Rattle.tables.specs.Tables.{Tables, tables}
+use Rattle.tables.specs.Tables.{Tables}
 use Rattle.creases.specs.Creases.{creases_at}
 use Rattle.creases.proofs.Table.{crease_at}
 use Rattle.points.specs.declared.weights.Weight.{Weight}
@@ -103,9 +103,10 @@ module _ (w : Weight) (own : List ℕ) (cage : HalfedgeTable) (creases : List �
 
   -- q is what the four passes left
   module _ {q : List ℤ} (e : q ≡ with_next_at w x lent [] points) where
-    pub seams_asked : ReadySeams creases x (tables [] lent.vert lent.edge) q
+    pub seams_asked : ReadySeams creases x lent q
     seams_asked =
         record {
+          in_twin = ready.level.in_twin;
           in_vert = ready.level.in_vert;
           in_edge = ready.level.in_edge;
           in_points = rw (e, whole_long) (omega arith);
@@ -113,7 +114,7 @@ module _ (w : Weight) (own : List ℕ) (cage : HalfedgeTable) (creases : List �
           seamed = rw (e, smooth_there) seamed;
         }
 
-    pub seams_drawn : {r : List ℤ} → r ≡ with_seams creases listed x (tables [] lent.vert lent.edge) q → r ≡ with_next_at w x lent sharp points
+    pub seams_drawn : {r : List ℤ} → r ≡ with_seams creases listed x lent q → r ≡ with_next_at w x lent sharp points
     unfolding with_seams
     seams_drawn f = f ∙ rw (e, front_there, smooth_there) (ap (λ m. take x.at points ++ m) next_drawn ∙ sym (next-part t c x.at points w sharp))
 

@@ -1,6 +1,6 @@
 // A level among all levels, and the next level's points from its own: the four passes.
 ghost use Rattle.std.specs.Prelude.{◌≡◌, []};
-ghost use Rattle.tables.specs.Tables.{tables};
+ghost use Rattle.tables.specs.Tables.{held};
 ghost use Rattle.passes.specs.Internal.Levels.{Ready, with_next, next_level, Climbs};
 
 use edgepoints::edges::write_edges;
@@ -9,6 +9,7 @@ use points::weights::Weight;
 use spokes::spokes::gather;
 use spokes::sums::clear_sums;
 use spokes::vertices::settle_vertices;
+use tables::Tables;
 
 // A level: its number, how many come after it, its counts, how many halfedges the level before has, which is 0 for the cage, and
 // where its halfedges and its points start in the lent tables.
@@ -42,22 +43,14 @@ impl Level {
 }
 
 // The next level's points, in a table that starts with the level's own, of a level without creases inside.
-pub fn next_points(
-    weight: Weight,
-    own: &[u32],
-    level: Level,
-    twin: &[u32],
-    vert: &[u32],
-    edge: &[u32],
-    points: &mut [i32],
-)
-    requires { Ready own.now level.before level.counts (tables twin.now vert.now edge.now) 0 points.old }
-    ensures { points.new ≡ with_next weight level.counts (tables twin.now vert.now edge.now) [] 0
+pub fn next_points(weight: Weight, own: &[u32], level: Level, tables: &Tables, points: &mut [i32])
+    requires { Ready own.now level.before level.counts (held tables.now) 0 points.old }
+    ensures { points.new ≡ with_next weight level.counts (held tables.now) [] 0
         points.old }
 {
     let vertices = level.counts.vertices;
     clear_sums(points, vertices);
-    gather(vert, points, vertices, level.before);
+    gather(tables.vert, points, vertices, level.before);
     settle_vertices(weight, own, points, vertices);
-    write_edges(twin, vert, edge, points, vertices);
+    write_edges(tables, points, vertices);
 }

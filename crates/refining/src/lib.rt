@@ -45,16 +45,8 @@ pub fn refine(
     fill(&cage.tables, counts, depth, twin, vert, edge);
     write_creases(cage.creases, counts, depth, creases);
     copy(cage.points, points);
-    refine_points(
-        weight,
-        counts,
-        depth,
-        cage.creases,
-        twin,
-        vert,
-        edge,
-        points,
-    );
+    let tables = Tables { twin, vert, edge };
+    refine_points(weight, counts, depth, cage.creases, &tables, points);
     Ok(counts.levels(depth))
 }
 

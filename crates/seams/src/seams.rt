@@ -3,6 +3,7 @@
 ghost use Rattle.std.specs.Prelude.{◌≡◌, ◌*◌, ◌+◌, ◌^◌, ◌<◌, length};
 ghost use Rattle.laws.specs.Internal.Steps.{steps};
 ghost use Rattle.halfedges.specs.Cage.{cell};
+ghost use Rattle.tables.specs.Tables.{held};
 ghost use Rattle.points.specs.Internal.Cells.{Near};
 ghost use Rattle.points.specs.Internal.Creased.{known_creases};
 ghost use Rattle.edgepoints.specs.Internal.Edges.{AsksMeet};
@@ -12,7 +13,17 @@ use crate::sharp::stays_sharp;
 use edgepoints::edges::{Corner, meet_one, put_middle, read_corner};
 use halfedges::table::HalfedgeTable;
 use points::cells::put_point;
+use tables::Tables;
 use tables::cells::wide;
+
+// The cage's creases at a level: the number of each of its edges, the level's number, and how many creases each of its vertices has
+// there.
+#[derive(Clone, Copy)]
+pub struct Creases<'a> {
+    pub numbers: &'a [u8],
+    pub level: usize,
+    pub counts: &'a [u32],
+}
 
 // How many creases a vertex has that an inner crease leaves: those of the cage's vertices are counted, and an added one has two.
 fn known_creases(counts: &[u32], vertex: u32) -> u32
@@ -64,89 +75,69 @@ fn draw_seam(
 }
 
 // A halfedge whose edge is an inner crease.
-fn draw_at(
-    counts: &[u32],
-    vert: &[u32],
-    edge: &[u32],
-    points: &mut [i32],
-    vertices: usize,
-    halfedge: usize,
-)
-    requires { (Seamed vert.now edge.now vertices points.old) × (halfedge < length vert.now) }
-    ensures { points.new ≡ draw_at counts.now vert.now edge.now vertices
-        points.old halfedge points.old }
+fn draw_at(counts: &[u32], level: &Tables, points: &mut [i32], vertices: usize, halfedge: usize)
+    requires { let c = held level.now in (Seamed c.vert c.edge vertices points.old) × (halfedge < length c.vert) }
+    ensures { let c = held level.now in points.new
+        ≡ draw_at counts.now c.vert c.edge vertices points.old halfedge points.old }
 {
-    let a = read_corner(vert, points, halfedge);
-    let b = read_corner(vert, points, HalfedgeTable::next(halfedge));
+    let a = read_corner(level.vert, points, halfedge);
+    let b = read_corner(level.vert, points, HalfedgeTable::next(halfedge));
     let creases = known_creases(counts, a.vertex);
-    draw_seam(points, vertices, wide(edge[halfedge]), creases, a, b);
+    draw_seam(points, vertices, wide(level.edge[halfedge]), creases, a, b);
 }
 
 // A halfedge whose edge comes of an edge of the cage.
 fn draw_part(
-    creases: &[u8],
-    level: usize,
-    counts: &[u32],
-    vert: &[u32],
-    edge: &[u32],
+    creases: &Creases,
+    level: &Tables,
     points: &mut [i32],
     vertices: usize,
     halfedge: usize,
 )
-    requires { (Limited creases.now level) × (Seamed vert.now edge.now vertices points.old) × (halfedge < length vert.now)
-        × (cell edge.now halfedge < length creases.now * 2 ^ level) }
-    ensures { points.new ≡ seam creases.now level counts.now vert.now edge.now vertices
+    requires { let c = held level.now in (Limited creases.now.numbers.now creases.now.level)
+        × (Seamed c.vert c.edge vertices points.old) × (halfedge < length c.vert)
+        × (cell c.edge halfedge < length creases.now.numbers.now * 2 ^ creases.now.level) }
+    ensures { let c = held level.now in points.new
+        ≡ seam creases.now.numbers.now creases.now.level creases.now.counts.now c.vert c.edge vertices
         points.old halfedge points.old }
 {
-    if stays_sharp(creases, level, wide(edge[halfedge]) >> level) {
-        draw_at(counts, vert, edge, points, vertices, halfedge);
+    let part = wide(level.edge[halfedge]) >> creases.level;
+    if stays_sharp(creases.numbers, creases.level, part) {
+        draw_at(creases.counts, level, points, vertices, halfedge);
     }
 }
 
 // Any halfedge. The edges that come of the cage's are the first ones of the level, and few above the cage.
 fn draw_any(
-    creases: &[u8],
-    level: usize,
+    creases: &Creases,
     outline: usize,
-    counts: &[u32],
-    vert: &[u32],
-    edge: &[u32],
+    level: &Tables,
     points: &mut [i32],
     vertices: usize,
     halfedge: usize,
 )
-    requires { (Limited creases.now level) × (Seamed vert.now edge.now vertices points.old) × (halfedge < length vert.now)
-        × (outline ≡ length creases.now * 2 ^ level) }
-    ensures { points.new ≡ seam creases.now level counts.now vert.now edge.now vertices
+    requires { let c = held level.now in (Limited creases.now.numbers.now creases.now.level)
+        × (Seamed c.vert c.edge vertices points.old) × (halfedge < length c.vert)
+        × (outline ≡ length creases.now.numbers.now * 2 ^ creases.now.level) }
+    ensures { let c = held level.now in points.new
+        ≡ seam creases.now.numbers.now creases.now.level creases.now.counts.now c.vert c.edge vertices
         points.old halfedge points.old }
 {
-    if wide(edge[halfedge]) < outline {
-        draw_part(
-            creases, level, counts, vert, edge, points, vertices, halfedge,
-        );
+    if wide(level.edge[halfedge]) < outline {
+        draw_part(creases, level, points, vertices, halfedge);
     }
 }
 
-// The points of the inner creases, and the places of their ends: the part of every halfedge. The crease table is the cage's, and the
-// counts are of its vertices' creases at this level.
-pub fn draw_seams(
-    creases: &[u8],
-    level: usize,
-    counts: &[u32],
-    vert: &[u32],
-    edge: &[u32],
-    points: &mut [i32],
-    vertices: usize,
-)
-    requires { (Limited creases.now level) × (Seamed vert.now edge.now vertices points.old) }
-    ensures { points.new ≡ steps (length vert.now)
-        (seam creases.now level counts.now vert.now edge.now vertices points.old)
+// The points of the inner creases, and the places of their ends: the part of every halfedge.
+pub fn draw_seams(creases: &Creases, level: &Tables, points: &mut [i32], vertices: usize)
+    requires { let c = held level.now in (Limited creases.now.numbers.now creases.now.level)
+        × (Seamed c.vert c.edge vertices points.old) }
+    ensures { let c = held level.now in points.new ≡ steps (length c.vert)
+        (seam creases.now.numbers.now creases.now.level creases.now.counts.now c.vert c.edge vertices points.old)
         points.old }
 {
-    let outline = creases.len() << level;
-    for halfedge in 0..edge.len() {
-        draw_any(
-            creases, level, outline, counts, vert, edge, points, vertices, halfedge,
-        );
+    let outline = creases.numbers.len() << creases.level;
+    for halfedge in 0..level.edge.len() {
+        draw_any(creases, outline, level, points, vertices, halfedge);
     }
 }

@@ -1,11 +1,12 @@
 // How many creases each vertex of the cage has at a level.
 ghost use Rattle.std.specs.Prelude.{◌≡◌, ℕ, ◌%◌, ◌≤◌, ◌<◌, length};
 ghost use Rattle.halfedges.specs.Cage.{most_halfedges, cell};
-ghost use Rattle.tables.specs.Tables.{tables};
+ghost use Rattle.tables.specs.Tables.{held};
 ghost use Rattle.seams.specs.Internal.Tally.{ForTally, FewCounted, EndsAdded, CreasesAdded, CreasesCounted};
 
 use crate::sharp::stays_sharp;
 use halfedges::table::HalfedgeTable;
+use tables::Tables;
 use tables::cells::wide;
 use tables::rules::count_one;
 
@@ -22,44 +23,29 @@ fn count_ends(vert: &[u32], counts: &mut [u32], halfedge: usize)
 }
 
 // One halfedge: a border edge counts at both its ends, and an inner crease at the start of each of its halfedges.
-fn count_halfedge(
-    twin: &[u32],
-    vert: &[u32],
-    edge: &[u32],
-    creases: &[u8],
-    level: usize,
-    counts: &mut [u32],
-    halfedge: usize,
-)
-    requires { (ForTally (tables twin.now vert.now edge.now) creases.now) × (halfedge < length vert.now)
+fn count_halfedge(cage: &Tables, creases: &[u8], level: usize, counts: &mut [u32], halfedge: usize)
+    requires { (ForTally (held cage.now) creases.now) × (halfedge < length cage.now.vert.now)
         × (FewCounted counts.old) }
-    ensures { CreasesAdded halfedge level (tables twin.now vert.now edge.now) creases.now
+    ensures { CreasesAdded halfedge level (held cage.now) creases.now
         counts.old counts.new }
 {
-    if twin[halfedge] == HalfedgeTable::NO_TWIN {
-        count_ends(vert, counts, halfedge);
+    if cage.twin[halfedge] == HalfedgeTable::NO_TWIN {
+        count_ends(cage.vert, counts, halfedge);
         return;
     }
-    if stays_sharp(creases, level, wide(edge[halfedge])) {
-        count_one(counts, wide(vert[halfedge]));
+    if stays_sharp(creases, level, wide(cage.edge[halfedge])) {
+        count_one(counts, wide(cage.vert[halfedge]));
     }
 }
 
 // The creases of each of the cage's vertices at a level, which the cage's own numbers tell.
-pub fn count_creases(
-    twin: &[u32],
-    vert: &[u32],
-    edge: &[u32],
-    creases: &[u8],
-    level: usize,
-    counts: &mut [u32],
-)
-    requires { ForTally (tables twin.now vert.now edge.now) creases.now }
-    ensures { CreasesCounted level (tables twin.now vert.now edge.now) creases.now
+pub fn count_creases(cage: &Tables, creases: &[u8], level: usize, counts: &mut [u32])
+    requires { ForTally (held cage.now) creases.now }
+    ensures { CreasesCounted level (held cage.now) creases.now
         counts.new }
 {
     counts.fill(0);
-    for halfedge in 0..vert.len() {
-        count_halfedge(twin, vert, edge, creases, level, counts, halfedge);
+    for halfedge in 0..cage.vert.len() {
+        count_halfedge(cage, creases, level, counts, halfedge);
     }
 }

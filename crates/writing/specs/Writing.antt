@@ -2,10 +2,12 @@
 use Rattle.std.specs.Prelude.{ℕ, List, [], ◌∷◌, ◌++◌, ℤ, Result, length}
 use Rattle.halfedges.specs.declared.refusal.Refusal.{Refusal}
 use Rattle.halfedges.specs.Refusals.{Verdict, short, first, Said, said, answered, filled}
-use Rattle.tables.specs.Tables.{Tables}
+use Rattle.tables.specs.Tables.{Tables, held}
 use Rattle.creases.specs.Creases.{no_creases}
+use Rattle.points.specs.declared.weights.Weight.{Weight}
 use Rattle.points.specs.declared.weights.Weight.TheVariants.{Short}
 use Rattle.points.specs.Operations.{cage_checks, creased_checks}
+use Rattle.cage.specs.declared.Cage.{Cage as Slices}
 use Rattle.cagefile.specs.declared.fields.Form.{Form}
 use Rattle.cagefile.specs.declared.fields.Form.TheVariants.{One, Two}
 use Rattle.cagefile.specs.Fields.{Cage, file}
@@ -33,6 +35,10 @@ written verdict bytes lent = record { answer = said verdict (length bytes) 0; fi
 
 unfoldable pub write_file : Form → Cage → List ℕ → Written
 write_file form w lent = written (write_verdict form w lent) (file form w) lent
+
+-- a cage as the code has it, with a weight
+abbrev pub weighted : Slices → Weight → Cage
+weighted c w = record { connectivity = held c.tables; points = c.points.now; creases = c.creases.now; weight = w }
 
 -- what the code's answer says
 abbrev pub wrote : Result ℕ Refusal → Said ℕ

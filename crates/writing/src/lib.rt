@@ -7,16 +7,18 @@ ghost use Rattle.laws.specs.Parts.{in_front};
 ghost use Rattle.laws.specs.Internal.Parts.{splice};
 ghost use Rattle.halfedges.specs.Cage.{most_halfedges};
 ghost use Rattle.halfedges.specs.Refusals.{DONE, told};
-ghost use Rattle.tables.specs.Tables.{tables};
+ghost use Rattle.tables.specs.Tables.{held};
 ghost use Rattle.cagefile.specs.declared.fields.Form.TheVariants.{One, Two};
 ghost use Rattle.cagefile.specs.Numbers.{u16, u32, twos};
 ghost use Rattle.cagefile.specs.Fields.{number, opening, table_heads, table_payloads, field, fields as fields_fields, file as fields_file};
-ghost use Rattle.writing.specs.Writing.{plain, write_verdict, write_file, wrote};
+ghost use Rattle.writing.specs.Writing.{plain, weighted, write_verdict, write_file, wrote};
 
+use cage::Cage;
 use cagefile::fields::Form;
 use cagefile::{fields, numbers};
 use halfedges::refusal::Refusal;
 use points::weights::Weight;
+use tables::Tables;
 
 // A field's head: its tag, and how many bytes follow it.
 fn put_head(file: &mut [u8], at: usize, tag: u8, size: u32)
@@ -122,26 +124,20 @@ fn write_bytes(file: &mut [u8], at: usize, tag: u8, bytes: &[u8]) -> usize
 }
 
 // The first field and the three tables'. Answers where the next head goes.
-fn write_tables(
-    file: &mut [u8],
-    form: Form,
-    twin: &[u32],
-    vert: &[u32],
-    edge: &[u32],
-    vertices: usize,
-) -> usize
-    requires { (18 + 6 * length twin.now ≤ length file.old) × (length twin.now ≤ most_halfedges) × (vertices < 65536)
-        × (length vert.now ≡ length twin.now) × (length edge.now ≡ length twin.now) }
-    ensures { let c = tables twin.now vert.now edge.now in
-        let H = length twin.now in
+fn write_tables(file: &mut [u8], form: Form, tables: &Tables, vertices: usize) -> usize
+    requires { let c = held tables.now in
+        (18 + 6 * length c.twin ≤ length file.old) × (length c.twin ≤ most_halfedges) × (vertices < 65536)
+        × (length c.vert ≡ length c.twin) × (length c.edge ≡ length c.twin) }
+    ensures { let c = held tables.now in
+        let H = length c.twin in
         (result ≡ 18 + 6 * H)
         × (file.new ≡ in_front (fields_fields (opening ∷ table_heads H) (table_payloads form c vertices)) file.old) }
 {
-    let halfedges = twin.len() as u32;
+    let halfedges = tables.twin.len() as u32;
     let twin_at = write_opening(&mut *file, form, halfedges, vertices as u32);
-    let vert_at = write_table(&mut *file, twin_at, fields::TWIN, twin);
-    let edge_at = write_table(&mut *file, vert_at, fields::VERT, vert);
-    write_table(&mut *file, edge_at, fields::EDGE, edge)
+    let vert_at = write_table(&mut *file, twin_at, fields::TWIN, tables.twin);
+    let edge_at = write_table(&mut *file, vert_at, fields::VERT, tables.vert);
+    write_table(&mut *file, edge_at, fields::EDGE, tables.edge)
 }
 
 // The end field. Answers the file's length.
@@ -154,115 +150,67 @@ fn write_end(file: &mut [u8], at: usize) -> usize
 }
 
 // The file of form 1 of a cage that the check accepts, into a lent file with room for it. Answers the file's length.
-fn write_plain(file: &mut [u8], twin: &[u32], vert: &[u32], edge: &[u32], points: &[i32]) -> usize
-    requires { write_verdict One (plain (tables twin.now vert.now edge.now) points.now) file.old ≡ DONE }
-    ensures { let c = tables twin.now vert.now edge.now in
-        let written = fields_file One (plain c points.now) in
+fn write_plain(file: &mut [u8], tables: &Tables, points: &[i32]) -> usize
+    requires { write_verdict One (plain (held tables.now) points.now) file.old ≡ DONE }
+    ensures { let written = fields_file One (plain (held tables.now) points.now) in
         (result ≡ length written) × (file.new ≡ in_front written file.old) }
 {
-    let points_at = write_tables(&mut *file, Form::One, twin, vert, edge, points.len() / 3);
+    let points_at = write_tables(&mut *file, Form::One, tables, points.len() / 3);
     let end_at = write_points(&mut *file, points_at, points);
     write_end(&mut *file, end_at)
 }
 
 // Of form 2.
-fn write_creased(
-    file: &mut [u8],
-    twin: &[u32],
-    vert: &[u32],
-    edge: &[u32],
-    points: &[i32],
-    creases: &[u8],
-    weight: Weight,
-) -> usize
-    requires { write_verdict Two
-        (record { connectivity = tables twin.now vert.now edge.now; points = points.now; creases = creases.now; weight = weight })
-        file.old ≡ DONE }
-    ensures { let c = tables twin.now vert.now edge.now in
-        let written = fields_file Two
-        (record { connectivity = c; points = points.now; creases = creases.now; weight = weight }) in
+fn write_creased(file: &mut [u8], cage: &Cage, weight: Weight) -> usize
+    requires { write_verdict Two (weighted cage.now weight) file.old ≡ DONE }
+    ensures { let written = fields_file Two (weighted cage.now weight) in
         (result ≡ length written) × (file.new ≡ in_front written file.old) }
 {
-    let creases_at = write_tables(&mut *file, Form::Two, twin, vert, edge, points.len() / 3);
-    let points_at = write_bytes(&mut *file, creases_at, fields::CREASES, creases);
-    let weight_at = write_points(&mut *file, points_at, points);
+    let creases_at = write_tables(&mut *file, Form::Two, &cage.tables, cage.vertices());
+    let points_at = write_bytes(&mut *file, creases_at, fields::CREASES, cage.creases);
+    let weight_at = write_points(&mut *file, points_at, cage.points);
     let byte = [weight.number() as u8];
     let end_at = write_bytes(&mut *file, weight_at, fields::WEIGHT, &byte);
     write_end(&mut *file, end_at)
 }
 
 // Checks 1 to 8 of a cage for form 1, and then the room.
-fn check_plain(
-    twin: &[u32],
-    vert: &[u32],
-    edge: &[u32],
-    points: &[i32],
-    file: &[u8],
-) -> Result<(), Refusal>
-    ensures { told result ≡ write_verdict One (plain (tables twin.now vert.now edge.now) points.now)
+fn check_plain(tables: &Tables, points: &[i32], file: &[u8]) -> Result<(), Refusal>
+    ensures { told result ≡ write_verdict One (plain (held tables.now) points.now)
         file.now }
 {
-    cage::verdict(twin, vert, edge, points)?;
-    if file.len() < 24 + 6 * twin.len() + 12 * (points.len() / 3) {
+    cage::check_plain(tables, points)?;
+    if file.len() < 24 + 6 * tables.twin.len() + 12 * (points.len() / 3) {
         return Err(Refusal::Room(5));
     }
     Ok(())
 }
 
 // Checks 1 to 8 and 15 of a cage for form 2, and then the room.
-fn check_creased(
-    twin: &[u32],
-    vert: &[u32],
-    edge: &[u32],
-    points: &[i32],
-    creases: &[u8],
-    weight: Weight,
-    file: &[u8],
-) -> Result<(), Refusal>
-    ensures { let c = tables twin.now vert.now edge.now in
-        told result ≡ write_verdict Two
-        (record { connectivity = c; points = points.now; creases = creases.now; weight = weight })
-        file.now }
+fn check_creased(cage: &Cage, weight: Weight, file: &[u8]) -> Result<(), Refusal>
+    ensures { told result ≡ write_verdict Two (weighted cage.now weight) file.now }
 {
-    cage::check_for_refining(twin, vert, edge, points, creases, 0, Weight::Short)?;
-    if file.len() < 31 + 6 * twin.len() + 12 * (points.len() / 3) + creases.len() {
+    cage.check_for_refining(0, Weight::Short)?;
+    if file.len() < 31 + 6 * cage.tables.twin.len() + 12 * cage.vertices() + cage.creases.len() {
         return Err(Refusal::Room(5));
     }
     Ok(())
 }
 
 // Writes a cage's file of form 1 into a lent file: all checks first, then the fields. Answers the file's length.
-pub fn write(
-    twin: &[u32],
-    vert: &[u32],
-    edge: &[u32],
-    points: &[i32],
-    file: &mut [u8],
-) -> Result<usize, Refusal>
-    ensures { let c = tables twin.now vert.now edge.now in
-        let after = write_file One (plain c points.now) file.old in
+pub fn write(tables: &Tables, points: &[i32], file: &mut [u8]) -> Result<usize, Refusal>
+    ensures { let after = write_file One (plain (held tables.now) points.now) file.old in
         (wrote result ≡ after.answer) × (file.new ≡ after.file) }
 {
-    check_plain(twin, vert, edge, points, file)?;
-    Ok(write_plain(file, twin, vert, edge, points))
+    check_plain(tables, points, file)?;
+    Ok(write_plain(file, tables, points))
 }
 
 // Of form 2, with creases and a weight.
-pub fn write_form_2(
-    twin: &[u32],
-    vert: &[u32],
-    edge: &[u32],
-    points: &[i32],
-    creases: &[u8],
-    weight: Weight,
-    file: &mut [u8],
-) -> Result<usize, Refusal>
-    ensures { let c = tables twin.now vert.now edge.now in
-        let after = write_file Two
-        (record { connectivity = c; points = points.now; creases = creases.now; weight = weight })
-        file.old in
+pub fn write_form_2(cage: &Cage, weight: Weight, file: &mut [u8]) -> Result<usize, Refusal>
+    ensures { let after = write_file Two (weighted cage.now weight) file.old in
         (wrote result ≡ after.answer) × (file.new ≡ after.file) }
 {
-    check_creased(twin, vert, edge, points, creases, weight, file)?;
-    Ok(write_creased(file, twin, vert, edge, points, creases, weight))
+    check_creased(cage, weight, file)?;
+    Ok(write_creased(file, cage, weight))
 }

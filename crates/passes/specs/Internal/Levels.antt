@@ -78,6 +78,7 @@ with_seams creases counts x lent points =
 
 -- what that takes: the level's halfedges and points lie in the tables
 pub record ReadySeams (creases : List ℕ) (x : Level) (lent : Tables) (points : List ℤ) : Type 0 where
+  pub in_twin : x.start + x.counts.halfedges ≤ length lent.twin
   pub in_vert : x.start + x.counts.halfedges ≤ length lent.vert
   pub in_edge : x.start + x.counts.halfedges ≤ length lent.edge
   pub in_points : x.at ≤ length points

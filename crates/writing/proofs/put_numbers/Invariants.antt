@@ -1,7 +1,6 @@
-use Prim.Native.Nat.{◌-◌, ◌≤◌}
 use mathlib.Core.Path.{◌≡◌}
 use mathlib.Core.List.{flat_map}
-use lib.ListN.{length, take}
+use lib.ListN.{take}
 use Rattle.laws.specs.Parts.{in_front}
 use Rattle.cagefile.specs.Numbers.{u16}
 use Rattle.writing.proofs.put_numbers.Given as goal

@@ -1,8 +1,8 @@
-use Prim.Native.Nat.{ℕ, ◌-◌, ◌≤◌}
+use Prim.Native.Nat.{ℕ}
 use mathlib.Core.Path.{◌≡◌}
 use mathlib.Core.List.{List, flat_map}
 use lib.IntN.{ℤ}
-use lib.ListN.{length, take}
+use lib.ListN.{take}
 use Rattle.laws.specs.Parts.{in_front}
 use Rattle.cagefile.specs.Numbers.{u32, twos}
 use Rattle.writing.proofs.put_points.Given as goal

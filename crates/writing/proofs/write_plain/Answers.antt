@@ -2,7 +2,7 @@
 use Prim.Native.Nat.{◌≤◌}
 use native.Mathlib.Omega.{arith}
 use lib.ListN.{length}
-use Rattle.tables.specs.Tables.{tables}
+use Rattle.tables.specs.Tables.{held}
 use Rattle.cagefile.specs.declared.fields.Form.TheVariants.{One}
 use Rattle.cagefile.specs.Fields.{Cage, later_heads, later_payloads}
 use Rattle.cagefile.proofs.Fits.{Fits}
@@ -16,7 +16,7 @@ use Rattle.writing.proofs.write_plain.Goals.{After-write_end-arg-1, After-write_
 -- what is written; it fits, and there is room
 module _ (s : Start) where
   abbrev cage : Cage
-  cage = plain (tables s.args.twin.now s.args.vert.now s.args.edge.now) s.args.points.now
+  cage = plain (held s.args.tables.now) s.args.points.now
 
   fits : Fits cage.connectivity cage.points
   fits = (write_fits One cage _ s.requires).0

@@ -9,10 +9,10 @@ use Rattle.edgepoints.proofs.edges.read_triangle.Goals as goal
 use Rattle.edgepoints.proofs.edges.read_triangle.Goals.{Start}
 
 module _ (s : Start) (h : ℕ) (le : h ≤ 3 * s.args.triangle + 2) where
-  corner-asked : (h < length s.args.vert.now) × (3 * cell s.args.vert.now h + 2 < length s.args.points.now)
-  corner-asked = let l : h < length s.args.vert.now = omega (arith, s.requires.in_vert) in (l, s.requires.pointed h l)
+  corner-asked : (h < length s.args.level.now.vert.now) × (3 * cell s.args.level.now.vert.now h + 2 < length s.args.points.now)
+  corner-asked = let l : h < length s.args.level.now.vert.now = omega (arith, s.requires.in_vert) in (l, s.requires.pointed h l)
 
-  cells-asked : (h < length s.args.twin.now) × (h < length s.args.edge.now)
+  cells-asked : (h < length s.args.level.now.twin.now) × (h < length s.args.level.now.edge.now)
   cells-asked = (omega (arith, s.requires.in_twin), omega (arith, s.requires.in_edge))
 
 pub read_corner-a-requires : goal.read_corner-a-requires
@@ -36,9 +36,9 @@ read_halfedge-third-requires c = cells-asked (goal.at.read_halfedge-third-requir
 pub returns : goal.returns
 returns c =
     let t = c.args.triangle in
-    let twin = c.args.twin.now in
-    let vert = c.args.vert.now in
-    let edge = c.args.edge.now in
+    let twin = c.args.level.now.twin.now in
+    let vert = c.args.level.now.vert.now in
+    let edge = c.args.level.now.edge.now in
     let l = c.args.points.now in
     let a = c.read_corner-a.ensures in
     let b = c.read_corner-b.ensures in

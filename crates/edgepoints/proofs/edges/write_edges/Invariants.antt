@@ -5,4 +5,4 @@ use Rattle.edgepoints.specs.Internal.Edges.{put_edge}
 use Rattle.edgepoints.proofs.edges.write_edges.Given as goal
 
 abbrev pub invariant-loop-triangle : goal.invariant-loop-triangle
-invariant-loop-triangle l = l.points ≡ steps (3 * l.triangle) (put_edge l.twin l.vert l.edge l.vertices l.initial.points) l.initial.points
+invariant-loop-triangle l = l.points ≡ steps (3 * l.triangle) (put_edge l.level.twin.now l.level.vert.now l.level.edge.now l.vertices l.initial.points) l.initial.points

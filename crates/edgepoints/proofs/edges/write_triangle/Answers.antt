@@ -26,7 +26,7 @@ module _ (a : After-read_triangle-read) where
   asked : AskedInTurn (Asks n) (step_edge n) read l
   asked = subst (λ x. AskedInTurn (Asks n) (step_edge n) x l) (sym a.read_triangle-read.ensures) s.requires.1
 
-  steps_are : in_turn (step_edge n) read l ≡ in_turn (step_edge n) (triangle_of s.args.twin.now s.args.vert.now s.args.edge.now l s.args.triangle) l
+  steps_are : in_turn (step_edge n) read l ≡ in_turn (step_edge n) (triangle_of s.args.level.now.twin.now s.args.level.now.vert.now s.args.level.now.edge.now l s.args.triangle) l
   steps_are = ap (λ x. in_turn (step_edge n) x l) a.read_triangle-read.ensures
 
 none : (e : Else-border_among) → border_among (read (goal.at.Else-border_among e).After-read_triangle-read) ≡ false

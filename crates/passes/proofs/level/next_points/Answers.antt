@@ -6,7 +6,7 @@ use mathlib.Core.List.{List}
 use lib.IntN.{ℤ}
 use lib.ListN.{length}
 use Rattle.laws.specs.Internal.Steps.{steps}
-use Rattle.tables.specs.Tables.{Tables, tables}
+use Rattle.tables.specs.Tables.{Tables, held}
 use Rattle.points.specs.Internal.Relied.{Fourfold}
 use Rattle.spokes.specs.Internal.Sums.{Gathers}
 use Rattle.spokes.specs.Internal.Spokes.{gathered}
@@ -24,7 +24,7 @@ module _ (s : Start) where
   n = s.args.level.counts.vertices
 
   abbrev c· : Tables
-  c· = tables s.args.twin.now s.args.vert.now s.args.edge.now
+  c· = held s.args.tables.now
 
   abbrev l : List ℤ
   l = s.args.points.now
@@ -39,7 +39,7 @@ is_cleared a = a.clear_sums.ensures
 is_gathered : (a : After-gather) → let s = start (goal.at.After-gather a).After-clear_sums in a.gather.new.points ≡ after_gather s.args.weight (own s) s.args.level.before s.args.level.counts (c· s) (l s) s.requires
 is_gathered a =
     let s = start (goal.at.After-gather a).After-clear_sums in
-    a.gather.ensures ∙ ap (gathered s.args.vert.now (n s) s.args.level.before) (is_cleared (goal.at.After-gather a).After-clear_sums)
+    a.gather.ensures ∙ ap (gathered s.args.tables.now.vert.now (n s) s.args.level.before) (is_cleared (goal.at.After-gather a).After-clear_sums)
 
 is_settled : (a : After-settle_vertices) → let s = start (goal.at.After-settle_vertices a).After-clear_sums in a.settle_vertices.new.points ≡ after_settle s.args.weight (own s) s.args.level.before s.args.level.counts (c· s) (l s) s.requires
 is_settled a =
@@ -49,7 +49,7 @@ is_settled a =
 pub gather-requires : goal.gather-requires
 gather-requires c =
     let s = start (goal.at.gather-requires c).After-clear_sums in
-    subst (λ q. Gathers s.args.vert.now (n s) q × (s.args.level.before ≢ 0 → Fourfold s.args.level.before s.args.vert.now)) (sym (is_cleared (goal.at.gather-requires c).After-clear_sums)) (gathers s.args.weight _ _ _ (c· s) (l s) s.requires)
+    subst (λ q. Gathers s.args.tables.now.vert.now (n s) q × (s.args.level.before ≢ 0 → Fourfold s.args.level.before s.args.tables.now.vert.now)) (sym (is_cleared (goal.at.gather-requires c).After-clear_sums)) (gathers s.args.weight _ _ _ (c· s) (l s) s.requires)
 
 pub settle_vertices-requires : goal.settle_vertices-requires
 settle_vertices-requires c =
@@ -59,11 +59,11 @@ settle_vertices-requires c =
 pub write_edges-requires : goal.write_edges-requires
 write_edges-requires c =
     let s = start (goal.at.write_edges-requires c).After-clear_sums in
-    subst (λ q. Edged s.args.twin.now s.args.vert.now s.args.edge.now (n s) q × ((h : ℕ) → h < length s.args.vert.now → Started s.args.twin.now s.args.edge.now (n s) h (steps h (put_edge s.args.twin.now s.args.vert.now s.args.edge.now (n s) q) q))) (sym (is_settled (goal.at.write_edges-requires c).After-settle_vertices)) (writes s.args.weight _ _ _ (c· s) (l s) s.requires)
+    subst (λ q. Edged s.args.tables.now.twin.now s.args.tables.now.vert.now s.args.tables.now.edge.now (n s) q × ((h : ℕ) → h < length s.args.tables.now.vert.now → Started s.args.tables.now.twin.now s.args.tables.now.edge.now (n s) h (steps h (put_edge s.args.tables.now.twin.now s.args.tables.now.vert.now s.args.tables.now.edge.now (n s) q) q))) (sym (is_settled (goal.at.write_edges-requires c).After-settle_vertices)) (writes s.args.weight _ _ _ (c· s) (l s) s.requires)
 
 pub returns : goal.returns
 returns c =
     let s = start (goal.at.returns c).After-clear_sums in
     c.write_edges.ensures
-    ∙ ap (λ q. steps (length s.args.vert.now) (put_edge s.args.twin.now s.args.vert.now s.args.edge.now (n s) q) q) (is_settled (goal.at.returns c).After-settle_vertices)
+    ∙ ap (λ q. steps (length s.args.tables.now.vert.now) (put_edge s.args.tables.now.twin.now s.args.tables.now.vert.now s.args.tables.now.edge.now (n s) q) q) (is_settled (goal.at.returns c).After-settle_vertices)
     ∙ passed s.args.weight _ _ _ (c· s) (l s) s.requires

@@ -1,7 +1,7 @@
 -- `climb` adds one level a turn.
 use mathlib.Core.Path.{◌≡◌, ap, ◌∙◌}
 use native.Mathlib.Omega.{arith}
-use Rattle.tables.specs.Tables.{tables}
+use Rattle.tables.specs.Tables.{held}
 use Rattle.passes.specs.Internal.Levels.{with_levels}
 use Rattle.passes.proofs.Climbed.{climb_start, climb_asks, climb_fits, climb_on}
 use Rattle.passes.proofs.refine.climb.Goals as goal
@@ -25,4 +25,4 @@ pub returns : goal.returns
 returns c =
     let e : c.loop.counter ≡ c.args.cage.left = omega arith in
     c.loop.invariant.is_table
-    ∙ ap (λ d. with_levels c.args.weight c.args.cage.counts d (tables c.args.twin.now c.args.vert.now c.args.edge.now) c.args.creases.now c.args.points.now) e
+    ∙ ap (λ d. with_levels c.args.weight c.args.cage.counts d (held c.args.tables.now) c.args.creases.now c.args.points.now) e

@@ -17,15 +17,15 @@ module _ (k : After-count_numbers) where
   enough = let small = s.requires.counts.vertices in search rules
 
 pub slice_bounds-count_numbers-end : goal.slice_bounds-count_numbers-end
-slice_bounds-count_numbers-end c = sym (length-take-le c.args.table.halfedges c.args.vert.now c.requires.cage_long)
+slice_bounds-count_numbers-end c = sym (length-take-le c.args.table.halfedges c.args.tables.now.vert.now c.requires.cage_long)
 
 pub count_numbers-requires : goal.count_numbers-requires
 count_numbers-requires c =
-    (rw (length-take-le c.args.table.halfedges c.args.vert.now c.requires.cage_long) c.requires.counts.halfedges, record { each = λ x l. get_or-replicate 3072 x 0 0 l })
+    (rw (length-take-le c.args.table.halfedges c.args.tables.now.vert.now c.requires.cage_long) c.requires.counts.halfedges, record { each = λ x l. get_or-replicate 3072 x 0 0 l })
 
 pub slice_bounds-climb-end : goal.slice_bounds-climb-end
 slice_bounds-climb-end c = sym (length-take-le (s (goal.at.slice_bounds-climb-end c).After-count_numbers).args.table.vertices c.count_numbers.new.tally (enough (goal.at.slice_bounds-climb-end c).After-count_numbers))
 
 pub climb-requires : goal.climb-requires
 climb-requires c =
-    record { first = refl; ready = (s (goal.at.climb-requires c).After-count_numbers).requires; listed = tally_lists (take (s (goal.at.climb-requires c).After-count_numbers).args.table.halfedges (s (goal.at.climb-requires c).After-count_numbers).args.vert.now) (s (goal.at.climb-requires c).After-count_numbers).args.table.vertices c.count_numbers.new.tally (enough (goal.at.climb-requires c).After-count_numbers) c.count_numbers.ensures }
+    record { first = refl; ready = (s (goal.at.climb-requires c).After-count_numbers).requires; listed = tally_lists (take (s (goal.at.climb-requires c).After-count_numbers).args.table.halfedges (s (goal.at.climb-requires c).After-count_numbers).args.tables.now.vert.now) (s (goal.at.climb-requires c).After-count_numbers).args.table.vertices c.count_numbers.new.tally (enough (goal.at.climb-requires c).After-count_numbers) c.count_numbers.ensures }

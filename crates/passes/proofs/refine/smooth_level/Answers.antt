@@ -4,7 +4,7 @@ use mathlib.Core.Path.{ap, ◌∙◌}
 use mathlib.Core.List.{[]}
 use lib.ListN.{length}
 use borrow.Rule.Slice.PartMut.{put_mid}
-use Rattle.tables.specs.Tables.{tables}
+use Rattle.tables.specs.Tables.{held}
 use Rattle.passes.specs.Internal.Levels.{tables_at}
 use Rattle.passes.proofs.Lent.{span, ready_part, part_back}
 use Rattle.passes.proofs.refine.smooth_level.Goals as goal
@@ -19,4 +19,4 @@ returns c =
     let x = c.args.level in
     let l = c.args.points.now in
     ap (put_mid x.at (length l - x.at) l) (rw (span x.start x.counts.halfedges) at c.next_points.ensures)
-    ∙ part_back x.counts (tables_at x.counts x.start (tables c.args.twin.now c.args.vert.now c.args.edge.now)) x.at l c.args.weight []
+    ∙ part_back x.counts (tables_at x.counts x.start (held c.args.tables.now)) x.at l c.args.weight []

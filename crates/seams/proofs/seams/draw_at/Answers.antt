@@ -12,11 +12,11 @@ module _ (a : After-read_corner-b) where
   abbrev s : Start
   s = (goal.at.After-read_corner-b a).Start
 
-  from_is : a.read_corner-a.result ≡ corner_of s.args.vert.now s.args.points.now s.args.halfedge
+  from_is : a.read_corner-a.result ≡ corner_of s.args.level.now.vert.now s.args.points.now s.args.halfedge
   from_is = a.read_corner-a.ensures
 
-  end_is : a.read_corner-b.result ≡ corner_of s.args.vert.now s.args.points.now (NEXT s.args.halfedge)
-  end_is = a.read_corner-b.ensures ∙ ap (corner_of s.args.vert.now s.args.points.now) a.next.ensures
+  end_is : a.read_corner-b.result ≡ corner_of s.args.level.now.vert.now s.args.points.now (NEXT s.args.halfedge)
+  end_is = a.read_corner-b.ensures ∙ ap (corner_of s.args.level.now.vert.now s.args.points.now) a.next.ensures
 
 pub read_corner-a-requires : goal.read_corner-a-requires
 read_corner-a-requires c =

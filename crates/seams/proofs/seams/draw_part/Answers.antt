@@ -13,13 +13,13 @@ module _ (a : After-stays_sharp) where
   abbrev s : Start
   s = (goal.at.After-stays_sharp a).Start
 
-  sharp_is : sharp_at s.args.creases.now s.args.level (cell s.args.edge.now s.args.halfedge) ≡ a.stays_sharp.result
+  sharp_is : sharp_at s.args.creases.now.numbers.now s.args.creases.now.level (cell s.args.level.now.edge.now s.args.halfedge) ≡ a.stays_sharp.result
   unfolding sharp_at
-  sharp_is = sym (a.stays_sharp.ensures ∙ ap (λ e. ltb s.args.level (cell s.args.creases.now (e / 2 ^ s.args.level))) a.wide.ensures)
+  sharp_is = sym (a.stays_sharp.ensures ∙ ap (λ e. ltb s.args.creases.now.level (cell s.args.creases.now.numbers.now (e / 2 ^ s.args.creases.now.level))) a.wide.ensures)
 
 pub stays_sharp-requires : goal.stays_sharp-requires
 stays_sharp-requires c =
-    part_below c.args.creases.now c.args.level c.wide.result (rw c.wide.ensures c.requires.3)
+    part_below c.args.creases.now.numbers.now c.args.creases.now.level c.wide.result (rw c.wide.ensures c.requires.3)
 
 pub returns-then-stays_sharp : goal.returns-then-stays_sharp
 returns-then-stays_sharp c =

@@ -13,12 +13,12 @@ loop-halfedge-init c = sym (steps_none _ _)
 
 pub draw_any-requires : goal.draw_any-requires
 draw_any-requires c =
-    let b : c.loop-halfedge.halfedge < length c.args.vert.now = omega (arith, c.requires.1.edge_long) in
+    let b : c.loop-halfedge.halfedge < length c.args.level.now.vert.now = omega (arith, c.requires.1.edge_long) in
     (c.requires.0, seamed_on _ _ _ _ _ _ _ c.requires.1 c.loop-halfedge.halfedge b c.loop-halfedge.invariant, b, outline_is _ _ c.requires.0)
 
 pub loop-halfedge-preserved : goal.loop-halfedge-preserved
 loop-halfedge-preserved c =
-    let b : c.loop-halfedge.halfedge < length c.args.vert.now = omega (arith, c.requires.1.edge_long) in
+    let b : c.loop-halfedge.halfedge < length c.args.level.now.vert.now = omega (arith, c.requires.1.edge_long) in
     seam_on _ _ _ _ _ _ _ c.requires.1 c.loop-halfedge.halfedge b c.loop-halfedge.invariant c.draw_any.ensures
 
 pub returns : goal.returns

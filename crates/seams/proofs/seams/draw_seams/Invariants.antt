@@ -4,4 +4,4 @@ use Rattle.seams.specs.Internal.Seams.{seam}
 use Rattle.seams.proofs.seams.draw_seams.Given as goal
 
 abbrev pub invariant-loop-halfedge : goal.invariant-loop-halfedge
-invariant-loop-halfedge l = l.points ≡ steps l.halfedge (seam l.creases l.level l.counts l.vert l.edge l.vertices l.initial.points) l.initial.points
+invariant-loop-halfedge l = l.points ≡ steps l.halfedge (seam l.creases.numbers.now l.creases.level l.creases.counts.now l.level.vert.now l.level.edge.now l.vertices l.initial.points) l.initial.points

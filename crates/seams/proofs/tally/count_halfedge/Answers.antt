@@ -5,28 +5,28 @@ use lib.Dec.{ltb}
 use Rattle.halfedges.specs.Cage.{cell}
 use Rattle.seams.proofs.Counted.{border-added, sharp_added, none_added}
 use Rattle.seams.proofs.tally.count_halfedge.Goals as goal
-use Rattle.seams.proofs.tally.count_halfedge.Goals.{After-stays_sharp, Else-twin-halfedge, Start}
+use Rattle.seams.proofs.tally.count_halfedge.Goals.{After-stays_sharp, Else-cage-halfedge, Start}
 
 -- what the test of the edge's number tells
 module _ (a : After-stays_sharp) where
-  abbrev e : Else-twin-halfedge
-  e = (goal.at.After-stays_sharp a).Else-twin-halfedge
+  abbrev e : Else-cage-halfedge
+  e = (goal.at.After-stays_sharp a).Else-cage-halfedge
 
   abbrev s : Start
-  s = (goal.at.Else-twin-halfedge e).Start
+  s = (goal.at.Else-cage-halfedge e).Start
 
-  sharp_is : ltb s.args.level (cell s.args.creases.now (cell s.args.edge.now s.args.halfedge)) ≡ a.stays_sharp.result
+  sharp_is : ltb s.args.level (cell s.args.creases.now (cell s.args.cage.now.edge.now s.args.halfedge)) ≡ a.stays_sharp.result
   sharp_is = sym (a.stays_sharp.ensures ∙ ap (λ i. ltb s.args.level (cell s.args.creases.now i)) a.wide.ensures)
 
-pub returns-then-twin-halfedge : goal.returns-then-twin-halfedge
-returns-then-twin-halfedge c = border-added _ _ _ _ _ c.if-twin-halfedge.true c.count_ends.ensures
+pub returns-then-cage-halfedge : goal.returns-then-cage-halfedge
+returns-then-cage-halfedge c = border-added _ _ _ _ _ c.if-cage-halfedge.true c.count_ends.ensures
 
 pub count_one-requires : goal.count_one-requires
 count_one-requires c = λ l. omega (arith, (s (goal.at.count_one-requires c).After-stays_sharp).requires.2 _ l)
 
 pub returns-then-stays_sharp : goal.returns-then-stays_sharp
 returns-then-stays_sharp c =
-    sharp_added _ _ _ _ _ (e (goal.at.returns-then-stays_sharp c).After-stays_sharp).if-twin-halfedge.false c.wide-then-stays_sharp.ensures (sharp_is (goal.at.returns-then-stays_sharp c).After-stays_sharp ∙ c.if-stays_sharp.true) c.count_one.ensures
+    sharp_added _ _ _ _ _ (e (goal.at.returns-then-stays_sharp c).After-stays_sharp).if-cage-halfedge.false c.wide-then-stays_sharp.ensures (sharp_is (goal.at.returns-then-stays_sharp c).After-stays_sharp ∙ c.if-stays_sharp.true) c.count_one.ensures
 
 pub returns-else-stays_sharp : goal.returns-else-stays_sharp
-returns-else-stays_sharp c = none_added _ _ _ _ _ (e (goal.at.returns-else-stays_sharp c).After-stays_sharp).if-twin-halfedge.false (sharp_is (goal.at.returns-else-stays_sharp c).After-stays_sharp ∙ c.if-stays_sharp.false)
+returns-else-stays_sharp c = none_added _ _ _ _ _ (e (goal.at.returns-else-stays_sharp c).After-stays_sharp).if-cage-halfedge.false (sharp_is (goal.at.returns-else-stays_sharp c).After-stays_sharp ∙ c.if-stays_sharp.false)
