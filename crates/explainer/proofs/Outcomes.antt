@@ -2,7 +2,7 @@
 -- the file in plain words (`file_explained`). Assumes nothing.
 use Prim.Native.Nat.{ℕ}
 use Rattle.std.specs.Prelude.{Ok, Err}
-use mathlib.Core.Path.{◌≡◌, refl, sym}
+use mathlib.Core.Path.{◌≡◌}
 use mathlib.Core.List.{List}
 use native.Mathlib.Omega.{arith}
 use borrow.Author.Tests.{ne_eqb}
@@ -14,9 +14,9 @@ use Rattle.tables.specs.Tables.{Tables}
 use Rattle.tables.specs.Check.{numbers, checked}
 use Rattle.points.specs.Operations.{vertices}
 use Rattle.clauses.specs.Explained.{Explained}
-use Rattle.clauses.specs.Clauses.{Clause, no_clause, clause_at}
+use Rattle.clauses.specs.Clauses.{Clause, clause_at}
 use Rattle.clauses.specs.Internal.Reached.{Reached}
-use Rattle.clauses.proofs.Explained.{Plain, explained, no_clause_lem}
+use Rattle.clauses.proofs.Explained.{explained}
 use Rattle.filechecks.specs.Contents.{VIn, cage_in}
 use Rattle.filechecks.proofs.Lengths.{points_length}
 use Rattle.text.specs.Replies.{answered}

@@ -1,7 +1,6 @@
 -- `clause_in` looks into the file's own tables, which are whole where it is refused by one of rules 3 to 7.
 use Prim.Native.Nat.{ℕ, ◌+◌, ◌*◌, ◌≤◌}
 use mathlib.Core.Path.{◌≡◌, sym, ap, ◌∙◌}
-use mathlib.Core.Logic.{inr}
 use mathlib.Core.List.{List}
 use native.Mathlib.Omega.{arith}
 use lib.ListN.{length, take, length-replicate}
@@ -17,7 +16,7 @@ use Rattle.filechecks.proofs.Lengths.{twins-length, verts_length, edges_length}
 use Rattle.intake.specs.Intake.{check_file}
 use Rattle.intake.proofs.Outcomes.{unread}
 use Rattle.explainer.proofs.Stops.{file_whole}
-use Rattle.explainer.proofs.Outcomes.{found_there, clause_there, clause_none, vertices_there}
+use Rattle.explainer.proofs.Outcomes.{found_there, clause_there, vertices_there}
 use Rattle.explainer.proofs.explaining.clause_in.Goals as goal
 use Rattle.explainer.proofs.explaining.clause_in.Goals.{After-copy_tables, After-halfedges_in-halfedges, Start}
 
