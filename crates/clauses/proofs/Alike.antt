@@ -75,3 +75,20 @@ is_numbered (Apart g h) = refl
 -- no clause has the number 0
 pub clause_number : (k : Kind) → (named k).number ≢ 0
 clause_number k = eqb-false (named k).number 0 (is_numbered k)
+
+is_refused : (k : Kind) (p : ℕ) → eqb (broken k p).number 0 ≡ false
+is_refused (TwinPast t n) p = refl
+is_refused (TwinItself t) p = refl
+is_refused (NotReturned t b) p = refl
+is_refused (VertexPast u v) p = refl
+is_refused (EndsAlike u n) p = refl
+is_refused (TwinEndsDiffer t s e) p = refl
+is_refused (Unused v) p = refl
+is_refused (EdgePast e n) p = refl
+is_refused (EdgeDiffers t e o) p = refl
+is_refused (EdgeShared e g) p = refl
+is_refused (Apart g h) p = refl
+
+-- nor its rule
+pub broken_number : (k : Kind) (p : ℕ) → (broken k p).number ≢ 0
+broken_number k p = eqb-false (broken k p).number 0 (is_refused k p)

@@ -3,12 +3,13 @@
 
 ghost use Rattle.std.specs.Prelude.{◌≡◌, IfSome};
 ghost use Rattle.halfedges.specs.Refusals.{refused};
-ghost use Rattle.tables.specs.Tables.{tables};
+ghost use Rattle.tables.specs.Tables.{held};
 ghost use Rattle.clauses.specs.Clauses.{clause_at};
 ghost use Rattle.clauses.specs.Shown.{numbers, named, shown, broken};
 ghost use Rattle.clauses.specs.Internal.Reached.{Reached};
 
 use halfedges::refusal::Refusal;
+use tables::Tables;
 
 mod fans;
 mod rules;
@@ -70,27 +71,25 @@ impl Clause {
 
 // The clause of a refusal of the tables, where its rule has clauses.
 #[tactic(auto, unfolding(crate::specs::Clauses::clause_at))]
-pub fn clause_at(
-    twin: &[u32],
-    vert: &[u32],
-    edge: &[u32],
-    vertices: usize,
-    refusal: Refusal,
-) -> Option<Clause>
-    requires { Reached (tables twin.now vert.now edge.now) vertices (refused refusal) }
-    ensures value { shown result
-        ≡ clause_at (tables twin.now vert.now edge.now) vertices (refused refusal) }
+pub fn clause_at(tables: &Tables, vertices: usize, refusal: Refusal) -> Option<Clause>
+    requires { Reached (held tables.now) vertices (refused refusal) }
+    ensures value { shown result ≡ clause_at (held tables.now) vertices (refused refusal) }
     ensures rule { IfSome result
         (λ k. broken k (refused refusal).place ≡ refused refusal) }
 {
     match refusal {
-        Refusal::Twin(halfedge) => Some(rules::twin_clause(twin, halfedge)),
-        Refusal::Vertex(halfedge) => Some(rules::vertex_clause(twin, vert, vertices, halfedge)),
+        Refusal::Twin(halfedge) => Some(rules::twin_clause(tables.twin, halfedge)),
+        Refusal::Vertex(halfedge) => Some(rules::vertex_clause(
+            tables.twin,
+            tables.vert,
+            vertices,
+            halfedge,
+        )),
         Refusal::Unused(vertex) => Some(Clause::Unused {
             vertex: vertex as u32,
         }),
-        Refusal::Edge(halfedge) => Some(rules::edge_clause(twin, edge, halfedge)),
-        Refusal::Fan(vertex) => Some(fans::fan_clause(twin, vert, vertex)),
+        Refusal::Edge(halfedge) => Some(rules::edge_clause(tables.twin, tables.edge, halfedge)),
+        Refusal::Fan(vertex) => Some(fans::fan_clause(tables.twin, tables.vert, vertex)),
         _ => None,
     }
 }

@@ -2,8 +2,7 @@
 use Rattle.std.specs.Prelude.{ℕ, cond, List, eqb}
 use Rattle.halfedges.specs.Refusals.{Verdict, when_done}
 use Rattle.points.specs.Operations.{vertices}
-use Rattle.clauses.specs.declared.Clause.{Clause}
-use Rattle.clauses.specs.Clauses.{clause_at}
+use Rattle.clauses.specs.Clauses.{Clause, clause_at}
 use Rattle.filechecks.specs.Contents.{cage_in}
 use Rattle.text.specs.Replies.{Reply, answered, refused}
 use Rattle.sentences.specs.Sentences.{because, accepted}

@@ -1,2 +1,1 @@
 pub mod Explaining
-pub mod Internal

@@ -1,60 +1,36 @@
 -- The tables have room for any cage, so what is read into them is the file's cage.
-use Prim.Native.Nat.{ℕ}
-use mathlib.Core.Path.{◌≡◌, ◌∙◌}
-use mathlib.Core.List.{List}
-use lib.IntN.{ℤ}
-use Rattle.tables.specs.Tables.{Tables, tables}
-use Rattle.reading.specs.declared.Reading.{Reading}
-use Rattle.reading.specs.Reading.{read_file, reported}
-use Rattle.reading.proofs.Outcomes.{Left}
-use Rattle.intake.specs.Intake.{check_file}
-use Rattle.intake.specs.Internal.Steps.{read_checked}
-use Rattle.intake.proofs.Outcomes.{unread, file_held, file-checked, file_taken}
+use mathlib.Core.Path.{◌∙◌}
+use Rattle.halfedges.proofs.Told.{handed_on}
+use Rattle.tables.specs.Tables.{tables}
+use Rattle.intake.proofs.Outcomes.{file_refused, file_there, file_held, file-checked, file_taken}
 use Rattle.intake.proofs.check_file.Goals as goal
-use Rattle.intake.proofs.check_file.Goals.{After-read-reading, Start}
 
--- what was read
-module _ (r : After-read-reading) where
-  abbrev start : Start
-  start = (goal.at.After-read-reading r).Start
-
-  abbrev file : List ℕ
-  file = start.args.file.now
-
-  abbrev lent : Tables
-  lent = tables start.args.twin.now start.args.vert.now start.args.edge.now
-
-  abbrev lent_points : List ℤ
-  lent_points = start.args.points.now
-
-  abbrev found : Reading
-  found = r.read-reading.result
-
-  abbrev now : Tables
-  now = let lasts = r.read-reading.new in tables lasts.twin lasts.vert lasts.edge
-
-  abbrev points : List ℤ
-  points = r.read-reading.new.points
-
-  abbrev creases : List ℕ
-  creases = r.read-reading.new.creases
-
-  left : Left (read_file file lent lent_points unread) (reported found) now points creases
-  left = r.read-reading.ensures
-
-  same : read_checked found now points creases ≡ check_file file
-  same = file-checked file lent lent_points start.requires found now points creases left
+pub returns-in_err-reading-clause-result_value : goal.returns-in_err-reading-clause-result_value
+returns-in_err-reading-clause-result_value c =
+    let a = c.args in
+    let lasts = c.read.new in
+    rw (handed_on c.from_residual.ensures)
+    (file_refused a.file.now (tables a.twin.now a.vert.now a.edge.now) a.points.now c.requires (tables lasts.twin lasts.vert lasts.edge) lasts.points lasts.creases _ c.in_err-reading.ensures)
 
 pub check_read-requires : goal.check_read-requires
 check_read-requires c =
-    let r = (goal.at.check_read-requires c).After-read-reading in
-    λ z. file_held (file r) (lent r) (lent_points r) (start r).requires (found r) (now r) (points r) (creases r) (left r) z
+    let a = c.args in
+    let lasts = c.read.new in
+    file_held a.file.now (tables a.twin.now a.vert.now a.edge.now) a.points.now c.requires (tables lasts.twin lasts.vert lasts.edge) lasts.points lasts.creases _ c.in_ok-reading.ensures
 
-pub returns : goal.returns
-returns c =
-    let r = (goal.at.returns c).After-read-reading in
-    let e = ◌∙◌ {b = read_checked (found r) (now r) (points r) (creases r)} c.check_read.ensures (same r) in
-    record {
-      result_value = e;
-      taken = file_taken (file r) (lent r) (lent_points r) (start r).requires (found r) (now r) (points r) (creases r) (left r) c.check_read.result e;
-    }
+pub returns-clause-result_value : goal.returns-clause-result_value
+returns-clause-result_value c =
+    let a = c.args in
+    let lasts = c.read.new in
+    c.check_read.ensures
+    ∙ file-checked a.file.now (tables a.twin.now a.vert.now a.edge.now) a.points.now c.requires (tables lasts.twin lasts.vert lasts.edge) lasts.points lasts.creases _ c.in_ok-reading.ensures
+
+pub returns-clause-taken : goal.returns-clause-taken
+returns-clause-taken c =
+    let a = c.args in
+    let lasts = c.read.new in
+    let now = tables lasts.twin lasts.vert lasts.edge in
+    let there = file_there a.file.now (tables a.twin.now a.vert.now a.edge.now) a.points.now c.requires now lasts.points lasts.creases _ c.in_ok-reading.ensures in
+    file_taken a.file.now _ now lasts.points lasts.creases there c.check_read.result
+    (c.check_read.ensures
+    ∙ file-checked a.file.now (tables a.twin.now a.vert.now a.edge.now) a.points.now c.requires now lasts.points lasts.creases _ c.in_ok-reading.ensures)

@@ -1,7 +1,7 @@
 -- What taking a file hands on: no promise cites these.
-use Rattle.std.specs.Prelude.{ℕ, ◌*◌, ◌≤◌, ◌≡◌, List, ℤ, length, replicate, take}
+use Rattle.std.specs.Prelude.{ℕ, ◌*◌, ◌≤◌, ◌≡◌, List, ℤ, length, take}
 use Rattle.halfedges.specs.Cage.{E}
-use Rattle.halfedges.specs.Refusals.{Said, told, when_done}
+use Rattle.halfedges.specs.Refusals.{Said}
 use Rattle.tables.specs.declared.check.Checked.{Checked}
 use Rattle.tables.specs.Tables.{Tables, tables}
 use Rattle.points.specs.Operations.{check_creased}
@@ -20,14 +20,13 @@ pub record Held (r : Reading) (t : Tables) (points : List ℤ) (creases : List �
   pub coordinates : 3 * r.vertices ≤ length points
   pub numbers : E (front r t).twin ≤ length creases
 
--- what the check of the cage at the tables' fronts answers, or the refusal of reading
-unfoldable pub read_checked : Reading → Tables → List ℤ → List ℕ → Said (List ℕ)
-read_checked r t points creases =
+-- what the check of the cage at the tables' fronts answers
+unfoldable pub front_checked : Reading → Tables → List ℤ → List ℕ → Said (List ℕ)
+front_checked r t points creases =
     let c = front r t in
-    when_done (told r.answer) (check_creased c (take (E c.twin) creases) (take (3 * r.vertices) points))
-    (record { verdict = told r.answer; values = replicate 5 0 })
+    check_creased c (take (E c.twin) creases) (take (3 * r.vertices) points)
 
--- where the cage was accepted, its VERT and its points stand at the tables' fronts
+-- of an accepted cage, VERT and points stand at the tables' fronts
 pub record Taken (f : List ℕ) (c : Checked) (vert : List ℕ) (points : List ℤ) : Type 0 where
-  pub corners : (told c.answer).number ≡ 0 → take c.halfedges vert ≡ (cage_in f).connectivity.vert
-  pub places : (told c.answer).number ≡ 0 → take (3 * c.vertices) points ≡ (cage_in f).points
+  pub corners : take c.halfedges vert ≡ (cage_in f).connectivity.vert
+  pub places : take (3 * c.vertices) points ≡ (cage_in f).points

@@ -1,2 +1,0 @@
--- What only contracts between functions cite.
-pub mod Steps
