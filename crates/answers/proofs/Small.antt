@@ -1,5 +1,5 @@
 -- Lists of small numbers (`fitting_at`, `fitting_both`, `fitting_front`, `fitting_rest`, `fitting_tabulate`, `zeros_fit`, `fitting_when`),
--- every answer's number (`number_small`), and checks with a small number and place: one of them (`given_small`, `given_at_small`), the first
+-- every refusal's number (`number_small`), and checks with a small number and place: one of them (`given_small`, `given_at_small`), the first
 -- of several (`first_small`, `guarded_small`, `joined_small`). Assumes nothing.
 use Prim.Native.Nat.{ℕ, zero, suc, ◌≤◌, ◌<◌, zero-le, suc-le-suc}
 use mathlib.Core.Path.{◌≡◌, refl}
@@ -13,9 +13,9 @@ use borrow.Author.Tests.{eqb-true}
 use Rattle.laws.specs.Below.{tabulate, any, lowest}
 use Rattle.laws.proofs.Tests.{by-test}
 use Rattle.laws.proofs.Lowest.{lowest_within}
-use Rattle.halfedges.specs.declared.answer.Answer.{Answer}
-use Rattle.halfedges.specs.declared.answer.Answer.TheVariants.{Done, Shape, Limit, Twin, Vertex, Unused, Edge, Fan, Point, Room, Short, Field, Extra, Doubled, Valence, Crease, NotOld, NoSuchHalfedge}
-use Rattle.halfedges.specs.Refusals.{Verdict, DONE, told, given, given_at, when_done, first}
+use Rattle.halfedges.specs.declared.refusal.Refusal.{Refusal}
+use Rattle.halfedges.specs.declared.refusal.Refusal.TheVariants.{Shape, Limit, Twin, Vertex, Unused, Edge, Fan, Point, Room, Short, Field, Extra, Doubled, Valence, Crease, NotOld, NoSuchHalfedge}
+use Rattle.halfedges.specs.Refusals.{Verdict, DONE, refused, given, given_at, when_done, first}
 use Rattle.halfedges.proofs.Checks.{first_refused_before, first_more, first_zero}
 use Rattle.answers.specs.Internal.Fitting.{Fitting}
 
@@ -48,8 +48,7 @@ pub fitting_when : (v : Verdict) (ns ms : List ℕ) → (v.number ≡ 0 → Fitt
 fitting_when v ns ms f g = by-test (eqb v.number 0) (λ e. rw e (f (eqb-true v.number 0 e))) (λ e. rw e g)
 
 -- every number fits a cell
-pub number_small : (a : Answer) → (told a).number < 4294967296
-number_small Done = omega arith
+pub number_small : (r : Refusal) → (refused r).number < 4294967296
 number_small Shape = omega arith
 number_small Limit = omega arith
 number_small (Twin h) = omega arith

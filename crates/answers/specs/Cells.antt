@@ -2,7 +2,7 @@
 use Rattle.std.specs.Prelude.{ℕ, cond, List, [], ◌∷◌, ◌++◌, ltb}
 use Rattle.halfedges.specs.declared.table.Levels.{Levels}
 use Rattle.halfedges.specs.Refusals.{Said}
-use Rattle.clauses.specs.declared.Clause.{Clause}
+use Rattle.clauses.specs.Clauses.{Clause}
 use Rattle.climbing.specs.declared.rows.Cells.{Cells}
 
 -- number, place and what is returned besides

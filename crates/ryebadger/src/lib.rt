@@ -20,6 +20,7 @@ ghost use Rattle.answers.specs.Cells.{cells as cells_cells, length_cells, number
 
 use answers;
 use building;
+use cage::Cage;
 use climbing;
 use halfedges::corners;
 use halfedges::table::HalfedgeTable;
@@ -28,7 +29,7 @@ use points::weights::Weight;
 use reading;
 use refining;
 use stl;
-use tables::rules;
+use tables::{Tables, rules};
 use why;
 use writing;
 
@@ -46,8 +47,13 @@ pub extern "C" fn ryebadger_check(
         ≡ cells_cells (check_creased (tables twin.now vert.now edge.now) creases.now
         points.now) }
 {
-    let checked = cage::check_creased(twin, vert, edge, points, creases);
-    *answer = answers::of_check(checked);
+    let tables = Tables { twin, vert, edge };
+    let cage = Cage {
+        tables,
+        points,
+        creases,
+    };
+    *answer = answers::of_check(cage.check());
 }
 
 // Why a cage is sent back: number and place of the check, and the clause of the rule that is broken.
@@ -64,8 +70,13 @@ pub extern "C" fn ryebadger_why(
         ≡ clause_cells (why_cage (tables twin.now vert.now edge.now) creases.now
         points.now) }
 {
-    let why = why::explain(twin, vert, edge, points, creases);
-    *answer = answers::of_why(why);
+    let tables = Tables { twin, vert, edge };
+    let cage = Cage {
+        tables,
+        points,
+        creases,
+    };
+    *answer = answers::of_why(why::explain(&cage));
 }
 
 // How many edges a twin table has, which is how long its crease table has to be.
@@ -138,10 +149,14 @@ pub extern "C" fn ryebadger_refine(
         × (tables twins.new verts.new edges.new ≡ after.lent)
         × (places.new ≡ after.points) × (seams.new ≡ after.creases) }
 {
+    let tables = Tables { twin, vert, edge };
+    let cage = Cage {
+        tables,
+        points,
+        creases,
+    };
     let chosen = Weight::numbered(weight);
-    let counted = refining::refine(
-        twin, vert, edge, points, creases, depth, chosen, twins, verts, edges, places, seams,
-    );
+    let counted = refining::refine(&cage, depth, chosen, twins, verts, edges, places, seams);
     *answer = answers::of_counts(counted);
 }
 
@@ -168,7 +183,8 @@ pub extern "C" fn ryebadger_halfedge(
     ensures { answer.new
         ≡ halfedge_cells (halfedge_question (tables twin.now vert.now edge.now) vertices depth halfedge) }
 {
-    let asked = climbing::ask(twin, vert, edge, vertices, depth, halfedge);
+    let cage = Tables { twin, vert, edge };
+    let asked = climbing::ask(&cage, vertices, depth, halfedge);
     *answer = answers::of_halfedge(asked);
 }
 
@@ -207,7 +223,8 @@ pub extern "C" fn ryebadger_write(
         let after = write_file One (plain c points.now) file.old in
         (answer.new ≡ length_cells after.answer) × (file.new ≡ after.file) }
 {
-    let writing = writing::write(twin, vert, edge, points, file);
+    let tables = Tables { twin, vert, edge };
+    let writing = writing::write(&tables, points, file);
     *answer = answers::of_writing(writing);
 }
 
@@ -229,8 +246,14 @@ pub extern "C" fn ryebadger_write_form_2(
         file.old in
         (answer.new ≡ length_cells after.answer) × (file.new ≡ after.file) }
 {
+    let tables = Tables { twin, vert, edge };
+    let cage = Cage {
+        tables,
+        points,
+        creases,
+    };
     let told = Weight::numbered(weight);
-    let writing = writing::write_form_2(twin, vert, edge, points, creases, told, file);
+    let writing = writing::write_form_2(&cage, told, file);
     *answer = answers::of_writing(writing);
 }
 

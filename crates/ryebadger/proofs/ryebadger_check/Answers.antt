@@ -6,7 +6,7 @@ use Rattle.answers.proofs.Answers.{check_fits}
 use Rattle.ryebadger.proofs.ryebadger_check.Goals as goal
 
 pub of_check-requires : goal.of_check-requires
-of_check-requires c = subst (λ s. Fitting (cells s)) (sym c.check_creased-checked.ensures) (check_fits _ _ _)
+of_check-requires c = subst (λ s. Fitting (cells s)) (sym c.check.ensures) (check_fits _ _ _)
 
 pub returns : goal.returns
-returns c = c.of_check.ensures ∙ ap cells c.check_creased-checked.ensures
+returns c = c.of_check.ensures ∙ ap cells c.check.ensures
