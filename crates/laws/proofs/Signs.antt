@@ -1,11 +1,11 @@
 -- Whole numbers by their sign. Assumes nothing.
 --     negative      −1 − z turns the negatives into the naturals
-use Prim.Native.Nat.{ℕ, zero, suc}
-use mathlib.Core.Path.{◌≡◌, refl, ap, ◌∙◌}
-use mathlib.Core.Bool.{true, false, true≢false}
-use native.Mathlib.Nat.{zero-add, not-suc-le-zero}
+use Prim.Native.Nat.{ℕ, suc}
+use mathlib.Core.Path.{◌≡◌, refl, ◌∙◌}
+use mathlib.Core.Bool.{true}
+use native.Mathlib.Nat.{not-suc-le-zero}
 use borrow.Author.Tests.{ltb-true}
-use lib.IntN.{ℤ, pos, negsuc, nat_abs, ◌-ℤ◌, +ℤ_comm, +ℤ_idr, -ℤ_one}
+use lib.IntN.{ℤ, pos, negsuc, ◌-ℤ◌, +ℤ_comm, -ℤ_one}
 use lib.Signed.{lt_z}
 
 flip_negsuc : (n : ℕ) → negsuc 0 -ℤ negsuc n ≡ pos n

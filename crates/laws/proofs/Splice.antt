@@ -3,14 +3,13 @@
 --     over_more        two splices end to end are one, where the first is at the front
 --     splice-part      what was written over a lent part is spliced into the whole
 --     splice_one       a store is a splice
-use Prim.Native.Nat.{ℕ, suc, ◌+◌, ◌-◌, ◌≤◌, ◌<◌}
-use mathlib.Core.Path.{◌≡◌, refl, sym, ap, ◌∙◌}
+use Prim.Native.Nat.{ℕ, ◌+◌, ◌-◌, ◌≤◌, ◌<◌}
+use mathlib.Core.Path.{◌≡◌, refl, sym, ap}
 use mathlib.Core.List.{List, [], ◌∷◌, ◌++◌, append_assoc, append-nil}
 use native.Mathlib.Nat.{le_refl}
 use native.Mathlib.Numerals.{add-one}
-use native.Mathlib.Omega.{arith}
 use lib.ListN.{length, set, take, drop, length-append, length-drop, drop_of_length-le}
-use lib.Seq.{set_split, sets-eq, length-take-le, drop-drop, take_at, drop_at, take_all, take-append-add, drop-append-add}
+use lib.Seq.{set_split, length-take-le, drop-drop, take_at, drop_at, take_all, take-append-add, drop-append-add}
 use borrow.Rule.Slice.PartMut.{put_mid, mid_of}
 use Rattle.laws.specs.Parts.{in_front}
 use Rattle.laws.specs.Internal.Parts.{splice}
