@@ -100,7 +100,7 @@ pub fn edge_clause(twin: &[u32], edge: &[u32], halfedge: usize) -> Clause
     }
 }
 
-// The lowest stranger to a halfedge's edge; H where there is none.
+// The lowest stranger to a halfedge's edge; H where there is none, as the definition has it.
 fn lowest_stranger(twin: &[u32], edge: &[u32], halfedge: usize) -> usize
     requires { (length edge.now ≡ length twin.now) × (halfedge < length twin.now) }
     ensures { result ≡ lowest_stranger twin.now edge.now halfedge }
