@@ -3,7 +3,7 @@
 use Prim.Native.Nat.{ℕ, ◌≤◌, ◌<◌}
 use mathlib.Core.Path.{◌≡◌, sym, subst, ◌∙◌}
 use mathlib.Core.Logic.{◌≢◌}
-use mathlib.Core.Bool.{true, false, not, true≢false}
+use mathlib.Core.Bool.{true, not, true≢false}
 use mathlib.Core.List.{List}
 use native.Mathlib.Decide.{ℕ_discrete}
 use lib.Dec.{eqb, leb}
@@ -95,20 +95,6 @@ use-broken vert u e = UseBroken.unused (λ h l. eqb-false _ _ (any_false (leaves
 -- ---- 6
 
 module _ (twin edge : List ℕ) (h : ℕ) where
-  -- how the code tells a stranger
-  pub stranger_other : (g : ℕ) → cell edge g ≢ cell edge h → false ≡ stranger twin edge h g
-  unfolding stranger
-  stranger_other g e = rw (ne_eqb (cell edge g) (cell edge h) e)
-
-  module _ (g : ℕ) (e : cell edge g ≡ cell edge h) where
-    pub stranger_itself : g ≡ h → false ≡ stranger twin edge h g
-    unfolding stranger
-    stranger_itself q = rw (eq-eqb (cell edge g) (cell edge h) e, eq-eqb g h q)
-
-    pub stranger_twin : g ≢ h → not (eqb g (cell twin h)) ≡ stranger twin edge h g
-    unfolding stranger
-    stranger_twin q = rw (eq-eqb (cell edge g) (cell edge h) e, ne_eqb g h q)
-
   strange : (g : ℕ) → stranger twin edge h g ≡ true → (cell edge g ≡ cell edge h) × (g ≢ h) × (g ≢ cell twin h)
   unfolding stranger
   strange g e =

@@ -27,7 +27,7 @@ pub fn fan_clause(twin: &[u32], vert: &[u32], vertex: usize) -> Clause
     }
 }
 
-// The lowest corner at a vertex; H where there is none.
+// The lowest corner at a vertex; H where there is none, a number that the definitions of the clauses take as it is.
 fn lowest_corner(vert: &[u32], vertex: usize) -> usize
     ensures { result ≡ lowest_corner vert.now vertex }
 {
@@ -36,7 +36,7 @@ fn lowest_corner(vert: &[u32], vertex: usize) -> usize
         .unwrap_or(vert.len())
 }
 
-// The lowest corner at a vertex without a mark; H where there is none.
+// The lowest corner at a vertex without a mark; H where there is none, as before.
 fn lowest_apart(marks: &[u32], twin: &[u32], vert: &[u32], vertex: usize, corner: usize) -> usize
     requires { (Joins twin.now corner marks.now) × (length vert.now ≡ length twin.now) × (length vert.now ≤ length marks.now) }
     ensures { result ≡ lowest_apart twin.now vert.now vertex corner }
@@ -60,6 +60,7 @@ fn mark_joined(twin: &[u32], marks: &mut [u32], corner: usize)
 }
 
 // Marks what the walk from a corner meets, until it ends at a border or is round.
+// The way is a flag, since one definition says what is met both ways.
 fn mark(twin: &[u32], marks: &mut [u32], corner: usize, along: bool)
     requires { (Walkable twin.now) × (corner < length twin.now) × (length twin.now ≤ length marks.old) }
     ensures { Marked twin.now along corner marks.old marks.new }

@@ -100,7 +100,7 @@ pub fn edge_clause(twin: &[u32], edge: &[u32], halfedge: usize) -> Clause
     }
 }
 
-// The lowest stranger to a halfedge's edge; H where there is none.
+// The lowest stranger to a halfedge's edge; H where there is none, as the definition has it.
 fn lowest_stranger(twin: &[u32], edge: &[u32], halfedge: usize) -> usize
     requires { (length edge.now ≡ length twin.now) × (halfedge < length twin.now) }
     ensures { result ≡ lowest_stranger twin.now edge.now halfedge }
@@ -114,6 +114,7 @@ fn lowest_stranger(twin: &[u32], edge: &[u32], halfedge: usize) -> usize
 }
 
 // Whether a place carries a halfedge's edge, and is neither it nor its twin.
+#[tactic(auto, using(std::proofs::lemmas::Bool::Decides::nat_tests), unfolding(tables::specs::Rules::stranger))]
 fn is_stranger(twin: &[u32], edge: &[u32], halfedge: usize, place: usize) -> bool
     requires { (length edge.now ≡ length twin.now) × (halfedge < length twin.now) × (place < length edge.now) }
     ensures { result ≡ stranger twin.now edge.now halfedge place }
