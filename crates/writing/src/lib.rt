@@ -34,7 +34,7 @@ fn put_counts(part: &mut [u8], form: Form, halfedges: u32, vertices: u32)
     requires { 6 ≤ length part.old }
     ensures { part.new ≡ in_front (flat_map u16 (number form ∷ halfedges ∷ vertices ∷ [])) part.old }
 {
-    numbers::put_number(&mut *part, 0, form.number());
+    numbers::put_number(&mut *part, 0, u32::from(form));
     numbers::put_number(&mut *part, 2, halfedges);
     numbers::put_number(&mut *part, 4, vertices);
 }
