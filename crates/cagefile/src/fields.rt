@@ -1,5 +1,5 @@
 // The forms of the file, and its fields: their tags, and what their heads take.
-ghost use Rattle.std.specs.Prelude.{◌≡◌};
+ghost use Rattle.std.specs.Prelude.{◌≡◌, ◌≢◌, MatchResult};
 ghost use Rattle.cagefile.specs.Fields.{number as fields_number};
 
 // Form 1, and form 2, which has creases and a weight besides.
@@ -9,14 +9,33 @@ pub enum Form {
     Two,
 }
 
-impl Form {
-    // The number that stands in the first field.
-    pub fn number(self) -> u32
-        ensures { result ≡ fields_number self }
-    {
-        match self {
+// What is said of a number that no form has.
+#[derive(Clone, Copy)]
+pub struct UnknownForm;
+
+// The number that stands in the first field.
+impl From<Form> for u32 {
+    ghost from_gives = { λ form number. number ≡ fields_number form };
+
+    fn from(form: Form) -> u32 {
+        match form {
             Form::One => 1,
             Form::Two => 2,
+        }
+    }
+}
+
+// The form that has a number, if there is one.
+impl TryFrom<u32> for Form {
+    type Error = UnknownForm;
+
+    ghost try_from_gives = { λ number answer. MatchResult answer (λ form. number ≡ fields_number form) (λ _. (form : _) → number ≢ fields_number form) };
+
+    fn try_from(number: u32) -> Result<Form, UnknownForm> {
+        match number {
+            1 => Ok(Form::One),
+            2 => Ok(Form::Two),
+            _ => Err(UnknownForm),
         }
     }
 }

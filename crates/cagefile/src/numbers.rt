@@ -1,5 +1,7 @@
-// Numbers in bytes: little-endian, and two's complement for coordinates.
-ghost use Rattle.std.specs.Prelude.{◌≡◌, ◌+◌, ◌≤◌, ◌<◌, length};
+// Numbers in bytes: little-endian, and two's complement for coordinates; and a table filled with what is read.
+ghost use Rattle.std.specs.Prelude.{◌≡◌, ℕ, ◌+◌, ◌≤◌, ◌<◌, length};
+ghost use Rattle.laws.specs.Below.{tabulate};
+ghost use Rattle.laws.specs.Parts.{in_front};
 ghost use Rattle.laws.specs.Internal.Parts.{splice};
 ghost use Rattle.cagefile.specs.Numbers.{u16, u32, twos, u16_at, u32_at, signed as reading_signed};
 
@@ -42,4 +44,16 @@ pub fn put_coordinate(part: &mut [u8], at: usize, coordinate: i32)
     ensures { part.new ≡ splice part.old at (u32 (twos coordinate)) }
 {
     put_word(&mut *part, at, coordinate.cast_unsigned());
+}
+
+// The first cells of a table, each as `read` gives it.
+pub fn copy_each<T: Copy, F: Fn(usize) -> T>(table: &mut [T], count: usize, read: F)
+    requires fits { count ≤ length table.old }
+    requires reads { (i : ℕ) → i < count → F.pre read i }
+    ensures { (cell : ℕ → T) → ((i : ℕ) (x : T) → i < count → F.post read i x → x ≡ cell i)
+        → table.new ≡ in_front (tabulate count cell) table.old }
+{
+    for index in 0..count {
+        table[index] = read(index);
+    }
 }

@@ -72,23 +72,10 @@ pub fn check_form(file: &[u8], form: Form) -> Result<(), Refusal>
         told result ≡ first (field_checks f 0 opening ++ (given (other_form (form ∷ []) f) (FIELD 0) ∷ [])) }
 {
     check_field(file, 0, fields::OPENING, fields::COUNTS)?;
-    if form_in(file) != form.number() {
+    if form_in(file) != u32::from(form) {
         return Err(Refusal::Field(0));
     }
     Ok(())
-}
-
-// The form that the first payload has the number of, if there is one.
-#[tactic(auto, unfolding(crate::specs::Contents::form_of))]
-fn known_form(file: &[u8]) -> Option<Form>
-    requires { 9 ≤ length file.now }
-    ensures { let f = file.now in result ≡ cond (other_form both f) None (Some (form_of f)) }
-{
-    match form_in(file) {
-        1 => Some(Form::One),
-        2 => Some(Form::Two),
-        _ => None,
-    }
 }
 
 // The form, H and V of the first payload; where they pass, which form it is.
@@ -97,7 +84,9 @@ fn check_opening(file: &[u8]) -> Result<Form, Refusal>
     ensures checked { told result ≡ first (opening_asked both file.now 0) }
     ensures known { IfOk result (λ form. form ≡ form_of file.now) }
 {
-    let form = known_form(file).ok_or(Refusal::Field(0))?;
+    let Ok(form) = Form::try_from(form_in(file)) else {
+        return Err(Refusal::Field(0));
+    };
     let halfedges = halfedges_in(file);
     let vertices = vertices_in(file);
     if halfedges == 0 {

@@ -26,8 +26,7 @@ pub fn copy_twins(file: &[u8], at: usize, twin: &mut [u32], count: usize)
     requires { (at + 2 * count ≤ length file.now) × (count ≤ length twin.old) }
     ensures { twin.new ≡ in_front (tabulate count (λ h. as_twin (u16_at file.now (at + 2 * h)))) twin.old }
 {
-    for halfedge in 0..count {
-        let number = numbers::number_at(file, at + 2 * halfedge);
-        twin[halfedge] = as_twin(number);
-    }
+    numbers::copy_each(twin, count, |h| {
+        as_twin(numbers::number_at(file, at + 2 * h))
+    });
 }

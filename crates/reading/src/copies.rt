@@ -11,9 +11,7 @@ pub fn copy_numbers(file: &[u8], at: usize, table: &mut [u32], count: usize)
     requires { (at + 2 * count ≤ length file.now) × (count ≤ length table.old) }
     ensures { table.new ≡ in_front (tabulate count (λ h. u16_at file.now (at + 2 * h))) table.old }
 {
-    for halfedge in 0..count {
-        table[halfedge] = numbers::number_at(file, at + 2 * halfedge);
-    }
+    numbers::copy_each(table, count, |h| numbers::number_at(file, at + 2 * h));
 }
 
 // The points' payload.
@@ -22,9 +20,7 @@ pub fn copy_points(file: &[u8], at: usize, points: &mut [i32], count: usize)
     ensures { points.new ≡ in_front (tabulate count (λ i. signed (u32_at file.now (at + 4 * i))))
         points.old }
 {
-    for index in 0..count {
-        points[index] = numbers::coordinate_at(file, at + 4 * index);
-    }
+    numbers::copy_each(points, count, |i| numbers::coordinate_at(file, at + 4 * i));
 }
 
 // The creases' payload, a byte for each edge.

@@ -6,7 +6,7 @@ ghost use Rattle.halfedges.specs.Refusals.{refused};
 ghost use Rattle.tables.specs.Check.{numbers as check_numbers};
 ghost use Rattle.clauses.specs.Shown.{named};
 ghost use Rattle.text.specs.Internal.Put.{Put};
-ghost use Rattle.sentences.specs.Sentences.{saying, of_three, shown as sentences_shown, twin_line, vertex_line, unused_line, edge_line, fan_line, because, accepted};
+ghost use Rattle.sentences.specs.Sentences.{saying, of_three, shown as sentences_shown, twin_line, fan_line, because, accepted};
 ghost use Rattle.sentences.specs.Internal.Pieces.{piece};
 
 use clauses::Clause;
@@ -111,52 +111,7 @@ fn put_twin(out: &mut [u8], place: usize, clause: Clause) -> usize
     )
 }
 
-// Rule 4.
-#[tactic(auto, unfolding(crate::specs::Sentences::vertex_line))]
-fn put_vertex(out: &mut [u8], place: usize, clause: Clause) -> usize
-    requires { 2048 ≤ length out.old }
-    ensures { Put out.old 0 2048 (vertex_line place (named clause)) out.new result }
-{
-    put_clause(
-        &mut *out,
-        place,
-        clause,
-        b"refused 4 #: corner # names vertex #, past the # points",
-        b"refused 4 #: corner # names vertex #, and so does the next corner, #",
-        b"refused 4 #: corner # has twin #, which names vertex # instead of #",
-    )
-}
-
-// Rule 5.
-#[tactic(auto, using(text::proofs::Texts::put_within), unfolding(crate::specs::Sentences::unused_line))]
-fn put_unused(out: &mut [u8], place: usize, clause: Clause) -> usize
-    requires { 2048 ≤ length out.old }
-    ensures { Put out.old 0 2048 (unused_line place (named clause)) out.new result }
-{
-    put_saying(
-        &mut *out,
-        b"refused 5 #: vertex # is named by no corner",
-        shown(place, clause),
-    )
-}
-
-// Rule 6.
-#[tactic(auto, unfolding(crate::specs::Sentences::edge_line))]
-fn put_edge(out: &mut [u8], place: usize, clause: Clause) -> usize
-    requires { 2048 ≤ length out.old }
-    ensures { Put out.old 0 2048 (edge_line place (named clause)) out.new result }
-{
-    put_clause(
-        &mut *out,
-        place,
-        clause,
-        b"refused 6 #: halfedge # has edge #, past the # edges",
-        b"refused 6 #: halfedge # has twin #, and edge # where its twin has edge #",
-        b"refused 6 #: halfedge # has edge #, and so has halfedge #, which is not its twin",
-    )
-}
-
-// Rule 7.
+// Rule 7, for which any other refusal stands.
 #[tactic(auto, using(text::proofs::Texts::put_within), unfolding(crate::specs::Sentences::fan_line))]
 fn put_fan(out: &mut [u8], place: usize, clause: Clause) -> usize
     requires { 2048 ≤ length out.old }
@@ -170,16 +125,34 @@ fn put_fan(out: &mut [u8], place: usize, clause: Clause) -> usize
 }
 
 // A refusal from 3 to 7, with its clause.
-#[tactic(auto, unfolding(crate::specs::Sentences::because))]
+#[tactic(auto, using(text::proofs::Texts::put_within), unfolding(crate::specs::Sentences::because, crate::specs::Sentences::vertex_line, crate::specs::Sentences::unused_line, crate::specs::Sentences::edge_line))]
 pub fn put_because(out: &mut [u8], refusal: Refusal, clause: Clause) -> usize
     requires { 2048 ≤ length out.old }
     ensures { Put out.old 0 2048 (because (refused refusal) (named clause)) out.new result }
 {
     match refusal {
         Refusal::Twin(halfedge) => put_twin(&mut *out, halfedge, clause),
-        Refusal::Vertex(halfedge) => put_vertex(&mut *out, halfedge, clause),
-        Refusal::Unused(vertex) => put_unused(&mut *out, vertex, clause),
-        Refusal::Edge(halfedge) => put_edge(&mut *out, halfedge, clause),
+        Refusal::Vertex(halfedge) => put_clause(
+            &mut *out,
+            halfedge,
+            clause,
+            b"refused 4 #: corner # names vertex #, past the # points",
+            b"refused 4 #: corner # names vertex #, and so does the next corner, #",
+            b"refused 4 #: corner # has twin #, which names vertex # instead of #",
+        ),
+        Refusal::Unused(vertex) => put_saying(
+            &mut *out,
+            b"refused 5 #: vertex # is named by no corner",
+            shown(vertex, clause),
+        ),
+        Refusal::Edge(halfedge) => put_clause(
+            &mut *out,
+            halfedge,
+            clause,
+            b"refused 6 #: halfedge # has edge #, past the # edges",
+            b"refused 6 #: halfedge # has twin #, and edge # where its twin has edge #",
+            b"refused 6 #: halfedge # has edge #, and so has halfedge #, which is not its twin",
+        ),
         _ => put_fan(&mut *out, refusal.place(), clause),
     }
 }

@@ -34,7 +34,7 @@ fn put_counts(part: &mut [u8], form: Form, halfedges: u32, vertices: u32)
     requires { 6 ≤ length part.old }
     ensures { part.new ≡ in_front (flat_map u16 (number form ∷ halfedges ∷ vertices ∷ [])) part.old }
 {
-    numbers::put_number(&mut *part, 0, form.number());
+    numbers::put_number(&mut *part, 0, u32::from(form));
     numbers::put_number(&mut *part, 2, halfedges);
     numbers::put_number(&mut *part, 4, vertices);
 }
@@ -44,6 +44,7 @@ fn put_numbers(part: &mut [u8], table: &[u32])
     requires { 2 * length table.now ≤ length part.old }
     ensures { part.new ≡ in_front (flat_map u16 table.now) part.old }
 {
+    // one function for this and `put_points` would ask more of the way that a number is put than both loops say
     for halfedge in 0..table.len() {
         numbers::put_number(&mut *part, 2 * halfedge, table[halfedge]);
     }
@@ -54,6 +55,7 @@ fn put_points(part: &mut [u8], points: &[i32])
     requires { 4 * length points.now ≤ length part.old }
     ensures { part.new ≡ in_front (flat_map u32 (map twos points.now)) part.old }
 {
+    // as in `put_numbers`
     for index in 0..points.len() {
         numbers::put_coordinate(&mut *part, 4 * index, points[index]);
     }

@@ -14,10 +14,10 @@ returns-in_err-check_field c = rw (handed_on c.from_residual.ensures) (stops_bef
 pub form_in-requires : goal.form_in-requires
 form_in-requires c = (field_at _ 0 opening (sym c.in_ok-check_field.ensures)).whole
 
-pub returns-then-form_in-number : goal.returns-then-form_in-number
-returns-then-form_in-number c =
-    last_given _ c.in_ok-check_field.ensures _ refl (rw (ne_eqb _ _ (λ e. c.if-form_in-number.true (c.form_in.ensures ∙ e ∙ sym c.number.ensures))) refl)
+pub returns-then-form_in-from : goal.returns-then-form_in-from
+returns-then-form_in-from c =
+    last_given _ c.in_ok-check_field.ensures _ refl (rw (ne_eqb _ _ (λ e. c.if-form_in-from.true (c.form_in.ensures ∙ e ∙ sym c.from.ensures))) refl)
 
 pub returns : goal.returns
 returns c =
-    last_passes _ c.in_ok-check_field.ensures _ (rw (eq-eqb _ _ (sym c.form_in.ensures ∙ c.if-form_in-number.false ∙ c.number.ensures)) refl)
+    last_passes _ c.in_ok-check_field.ensures _ (rw (eq-eqb _ _ (sym c.form_in.ensures ∙ c.if-form_in-from.false ∙ c.from.ensures)) refl)

@@ -1,29 +1,28 @@
 -- `check_opening` goes through the definition's three checks in order.
 use Prim.Native.Nat.{ℕ, ◌%◌}
-use mathlib.Core.Path.{◌≡◌, refl, sym, ap, ◌∙◌}
+use mathlib.Core.Path.{◌≡◌, sym, ◌∙◌}
 use mathlib.Core.Logic.{◌≢◌}
-use mathlib.Core.Bool.{Bool, true, false}
+use mathlib.Core.Bool.{true, false}
 use mathlib.Core.List.{List}
 use borrow.Author.Tests.{eq-eqb, ne_eqb}
-use Rattle.std.specs.Prelude.{Option, Some, None, Ok, Err, cond, ok_or}
-use Rattle.halfedges.specs.declared.refusal.Refusal.{Refusal}
 use Rattle.halfedges.specs.Refusals.{Verdict, DONE, SHAPE, LIMIT, FIELD, given, first}
 use Rattle.halfedges.specs.Counts.{above_limit}
-use Rattle.halfedges.proofs.Told.{handed_on}
 use Rattle.cagefile.specs.declared.fields.Form.{Form}
-use Rattle.filechecks.specs.Contents.{HIn, VIn}
+use Rattle.cagefile.specs.declared.fields.Form.TheVariants.{One, Two}
+use Rattle.cagefile.specs.Fields.{number}
+use Rattle.filechecks.specs.Contents.{form_in, form_of, HIn, VIn}
 use Rattle.filechecks.specs.FileChecks.{other_form, opening_asked, both}
 use Rattle.filechecks.proofs.check_opening.Goals as goal
 
--- whether a form was known
-module _ (x : Form) (q : Refusal) where
-  unknown : (other : Bool) {k : Option Form} {r : Refusal} → k ≡ cond other None (Some x) → Err r ≡ ok_or k q → (other ≡ true) × (r ≡ q)
-  unknown true e f = let g = f ∙ ap (λ o. ok_or o q) e in (refl, cc)
-  unknown false e f = let g = f ∙ ap (λ o. ok_or o q) e in absurd cc
+-- whether the number is a form's
+module _ (f : List ℕ) where
+  known : (x : Form) → form_in f ≡ number x → (other_form both f ≡ false) × (x ≡ form_of f)
+  unfolding form_of
+  known One e = (simp e, simp e)
+  known Two e = (simp e, simp e)
 
-  known : (other : Bool) {k : Option Form} {form : Form} → k ≡ cond other None (Some x) → Ok form ≡ ok_or k q → (other ≡ false) × (form ≡ x)
-  known true e f = let g = f ∙ ap (λ o. ok_or o q) e in absurd cc
-  known false e f = let g = f ∙ ap (λ o. ok_or o q) e in (refl, cc)
+  unknown : ((x : Form) → form_in f ≢ number x) → other_form both f ≡ true
+  unknown n = simp (ne_eqb _ _ (n One), ne_eqb _ _ (n Two))
 
 -- what the three checks tell
 module _ (f : List ℕ) where
@@ -53,30 +52,28 @@ module _ (f : List ℕ) where
         unfolding opening_asked first given
         done_told e = simp (form, ne_eqb _ _ some, eq-eqb _ _ threes, e)
 
-pub returns-in_err-form-clause-checked : goal.returns-in_err-form-clause-checked
-returns-in_err-form-clause-checked c =
-    let u = unknown _ _ _ c.known_form.ensures c.in_err-form.ensures.value in
-    rw (handed_on c.from_residual.ensures, u.1) (other_told _ u.0)
+pub returns-in_default-clause-checked : goal.returns-in_default-clause-checked
+returns-in_default-clause-checked c = other_told _ (unknown c.args.file.now (λ x e. c.in_default.ensures x (c.form_in.ensures ∙ e)))
 
 pub returns-then-halfedges-eq0-clause-checked : goal.returns-then-halfedges-eq0-clause-checked
 returns-then-halfedges-eq0-clause-checked c =
-    let k = known _ _ _ c.known_form.ensures c.in_ok-form.ensures.value in
+    let k = known c.args.file.now c.in-Ok.form (sym c.form_in.ensures ∙ c.in-Ok.ensures) in
     empty_told _ k.0 (sym c.halfedges_in-halfedges.ensures.0 ∙ c.if-halfedges-eq0.true)
 
 pub returns-then-halfedges-ne0-clause-checked : goal.returns-then-halfedges-ne0-clause-checked
 returns-then-halfedges-ne0-clause-checked c =
-    let k = known _ _ _ c.known_form.ensures c.in_ok-form.ensures.value in
+    let k = known c.args.file.now c.in-Ok.form (sym c.form_in.ensures ∙ c.in-Ok.ensures) in
     threes_told _ k.0 (rw c.halfedges_in-halfedges.ensures.0 at c.if-halfedges-eq0.false) (rw c.halfedges_in-halfedges.ensures.0 at c.if-halfedges-ne0.true)
 
 pub returns-then-above_limit-clause-checked : goal.returns-then-above_limit-clause-checked
 returns-then-above_limit-clause-checked c =
-    let k = known _ _ _ c.known_form.ensures c.in_ok-form.ensures.value in
+    let k = known c.args.file.now c.in-Ok.form (sym c.form_in.ensures ∙ c.in-Ok.ensures) in
     let h = c.halfedges_in-halfedges.ensures.0 in
     limit_told _ k.0 (rw h at c.if-halfedges-eq0.false) (rw h at c.if-halfedges-ne0.false) (sym (rw (h, c.vertices_in-vertices.ensures.0) at c.above_limit.ensures) ∙ c.if-above_limit.true)
 
 pub returns : goal.returns
 returns c =
-    let k = known _ _ _ c.known_form.ensures c.in_ok-form.ensures.value in
+    let k = known c.args.file.now c.in-Ok.form (sym c.form_in.ensures ∙ c.in-Ok.ensures) in
     let h = c.halfedges_in-halfedges.ensures.0 in
     record {
       checked = done_told _ k.0 (rw h at c.if-halfedges-eq0.false) (rw h at c.if-halfedges-ne0.false) (sym (rw (h, c.vertices_in-vertices.ensures.0) at c.above_limit.ensures) ∙ c.if-above_limit.false);

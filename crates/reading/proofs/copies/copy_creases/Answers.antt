@@ -3,9 +3,8 @@ use Prim.Native.Nat.{ℕ, ◌+◌, ◌-◌, ◌≤◌}
 use mathlib.Core.Path.{◌≡◌, sym, ap, ◌∙◌}
 use mathlib.Core.List.{List, ◌++◌}
 use native.Mathlib.Omega.{arith}
-use lib.ListN.{length, get_or, drop, length-append, length-drop}
+use lib.ListN.{length, get_or, drop}
 use Rattle.laws.specs.Below.{tabulate}
-use Rattle.laws.specs.Parts.{in_front}
 use Rattle.laws.specs.Internal.Parts.{part}
 use Rattle.laws.proofs.Tabulate.{length-tabulate, tabulate_ext, tabulate-cells}
 use Rattle.laws.proofs.Parts.{length_part, part_at}
