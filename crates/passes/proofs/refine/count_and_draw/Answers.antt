@@ -1,7 +1,6 @@
 -- `count_and_draw` lists the creases of the cage's vertices by a tally of the cage's tables.
 use Prim.Native.Nat.{◌≤◌}
 use mathlib.Core.Path.{sym, ap, ◌∙◌}
-use mathlib.Core.List.{[]}
 use lib.ListN.{length}
 use lib.Seq.{length-take-le}
 use borrow.Author.Rules.{rules}
