@@ -27,8 +27,7 @@ struct Base<'a> {
 // The next level's points, from tables that hold all levels, of a level without creases inside.
 fn smooth_level(weight: Weight, own: &[u32], level: Level, tables: &Tables, points: &mut [i32])
     requires { ReadyLevel own.now level (held tables.now) points.old }
-    ensures { points.new ≡ with_next_at weight level (held tables.now) []
-        points.old }
+    ensures { points.new ≡ with_next_at weight level (held tables.now) [] points.old }
 {
     let start = level.start;
     let end = start + level.counts.halfedges;
@@ -49,8 +48,7 @@ fn smooth_level(weight: Weight, own: &[u32], level: Level, tables: &Tables, poin
 // The creases inside a level, from tables that hold all levels and the number of creases of each of the cage's vertices.
 fn draw_level(creases: &[u8], counts: &[u32], level: Level, tables: &Tables, points: &mut [i32])
     requires { ReadySeams creases.now level (held tables.now) points.old }
-    ensures { points.new ≡ with_seams creases.now counts.now level
-        (held tables.now) points.old }
+    ensures { points.new ≡ with_seams creases.now counts.now level (held tables.now) points.old }
 {
     let start = level.start;
     let end = start + level.counts.halfedges;
@@ -143,8 +141,7 @@ pub fn refine_points(
     points: &mut [i32],
 )
     requires { ReadyLevels table depth (held tables.now) creases.now points.old }
-    ensures { points.new ≡ with_levels weight table depth (held tables.now)
-        creases.now points.old }
+    ensures { points.new ≡ with_levels weight table depth (held tables.now) creases.now points.old }
 {
     let mut corners = [0u32; HalfedgeTable::MOST_HALFEDGES];
     count_numbers(&tables.vert[..table.halfedges], &mut corners);
