@@ -45,8 +45,7 @@ impl Level {
 // The next level's points, in a table that starts with the level's own, of a level without creases inside.
 pub fn next_points(weight: Weight, own: &[u32], level: Level, tables: &Tables, points: &mut [i32])
     requires { Ready own.now level.before level.counts (held tables.now) 0 points.old }
-    ensures { points.new ≡ with_next weight level.counts (held tables.now) [] 0
-        points.old }
+    ensures { points.new ≡ with_next weight level.counts (held tables.now) [] 0 points.old }
 {
     let vertices = level.counts.vertices;
     clear_sums(points, vertices);

@@ -4,7 +4,7 @@ ghost use Rattle.tables.specs.Tables.{held};
 ghost use Rattle.creases.specs.Creases.{creases_at};
 ghost use Rattle.points.specs.Internal.Creased.{listed_after};
 ghost use Rattle.passes.specs.Internal.Levels.{ReadyLevel, with_next_at, ReadySeams, with_seams, ReadyCount, cage_of, ReadyCreased};
-ghost use Rattle.passes.specs.Internal.Levels.{ReadyCage, ReadyLevels, with_levels};
+ghost use Rattle.passes.specs.Internal.Levels.{ReadyLevels, cage_corners, with_levels};
 
 use crate::level::{Level, next_points};
 use halfedges::table::HalfedgeTable;
@@ -15,11 +15,19 @@ use seams::tally::count_creases;
 use tables::Tables;
 use tables::rules::count_numbers;
 
+// What every level takes of the cage: the weight chosen, the corners of each vertex, the counts, and the number of each edge.
+#[derive(Clone, Copy)]
+struct Base<'a> {
+    weight: Weight,
+    own: &'a [u32],
+    counts: HalfedgeTable,
+    creases: &'a [u8],
+}
+
 // The next level's points, from tables that hold all levels, of a level without creases inside.
 fn smooth_level(weight: Weight, own: &[u32], level: Level, tables: &Tables, points: &mut [i32])
     requires { ReadyLevel own.now level (held tables.now) points.old }
-    ensures { points.new ≡ with_next_at weight level (held tables.now) []
-        points.old }
+    ensures { points.new ≡ with_next_at weight level (held tables.now) [] points.old }
 {
     let start = level.start;
     let end = start + level.counts.halfedges;
@@ -40,8 +48,7 @@ fn smooth_level(weight: Weight, own: &[u32], level: Level, tables: &Tables, poin
 // The creases inside a level, from tables that hold all levels and the number of creases of each of the cage's vertices.
 fn draw_level(creases: &[u8], counts: &[u32], level: Level, tables: &Tables, points: &mut [i32])
     requires { ReadySeams creases.now level (held tables.now) points.old }
-    ensures { points.new ≡ with_seams creases.now counts.now level
-        (held tables.now) points.old }
+    ensures { points.new ≡ with_seams creases.now counts.now level (held tables.now) points.old }
 {
     let start = level.start;
     let end = start + level.counts.halfedges;
@@ -63,20 +70,14 @@ fn draw_level(creases: &[u8], counts: &[u32], level: Level, tables: &Tables, poi
 }
 
 // The creases inside a level, where the creases of the cage's vertices are counted first.
-fn count_and_draw(
-    cage: HalfedgeTable,
-    creases: &[u8],
-    level: Level,
-    tables: &Tables,
-    points: &mut [i32],
-)
-    requires { (ReadyCount cage creases.now (held tables.now))
-        × (ReadySeams creases.now level (held tables.now) points.old) }
-    ensures { points.new ≡ with_seams creases.now
-        (listed_after level.number (cage_of cage (held tables.now))
-        creases.now cage.vertices) level (held tables.now) points.old }
+fn count_and_draw(cage: &Base, level: Level, tables: &Tables, points: &mut [i32])
+    requires { (ReadyCount cage.now.counts cage.now.creases.now (held tables.now))
+        × (ReadySeams cage.now.creases.now level (held tables.now) points.old) }
+    ensures { points.new ≡ with_seams cage.now.creases.now
+        (listed_after level.number (cage_of cage.now.counts (held tables.now))
+        cage.now.creases.now cage.now.counts.vertices) level (held tables.now) points.old }
 {
-    let halfedges = cage.halfedges;
+    let halfedges = cage.counts.halfedges;
     let mut counts = [0u32; HalfedgeTable::MOST_HALFEDGES];
     count_creases(
         &Tables {
@@ -84,50 +85,48 @@ fn count_and_draw(
             vert: &tables.vert[..halfedges],
             edge: &tables.edge[..halfedges],
         },
-        creases,
+        cage.creases,
         level.number,
         &mut counts,
     );
-    draw_level(creases, &counts[..cage.vertices], level, tables, points);
+    draw_level(
+        cage.creases,
+        &counts[..cage.counts.vertices],
+        level,
+        tables,
+        points,
+    );
 }
 
 // The next level's points, from tables that hold all levels. Where none of the cage's creases is left inside, nothing looks for them.
-fn refine_level(
-    weight: Weight,
-    own: &[u32],
-    cage: HalfedgeTable,
-    creases: &[u8],
-    level: Level,
-    tables: &Tables,
-    points: &mut [i32],
-)
-    requires { ReadyCreased own.now cage creases.now level (held tables.now) points.old }
-    ensures { points.new ≡ with_next_at weight level (held tables.now)
-        (creases_at cage creases.now level.number) points.old }
+fn refine_level(cage: &Base, level: Level, tables: &Tables, points: &mut [i32])
+    requires { ReadyCreased cage.now.own.now cage.now.counts cage.now.creases.now level (held tables.now) points.old }
+    ensures { points.new ≡ with_next_at cage.now.weight level (held tables.now)
+        (creases_at cage.now.counts cage.now.creases.now level.number) points.old }
 {
-    smooth_level(weight, own, level, tables, points);
-    if any_sharp(creases, level.number) {
-        count_and_draw(cage, creases, level, tables, points);
+    smooth_level(cage.weight, cage.own, level, tables, points);
+    if any_sharp(cage.creases, level.number) {
+        count_and_draw(cage, level, tables, points);
     }
 }
 
-// The points of all levels after the cage, in a table that starts with the cage's, from tables that hold all levels, the corners of
-// the cage's vertices and its creases.
-fn climb(
-    weight: Weight,
-    own: &[u32],
-    creases: &[u8],
-    cage: Level,
-    tables: &Tables,
-    points: &mut [i32],
-)
-    requires { ReadyCage own.now creases.now cage (held tables.now) points.old }
-    ensures { points.new ≡ with_levels weight cage.counts cage.left
-        (held tables.now) creases.now points.old }
+// The points of all levels after the cage, in a table that starts with the cage's, from tables that hold all levels.
+fn climb(cage: &Base, depth: usize, tables: &Tables, points: &mut [i32])
+    requires { (ReadyLevels cage.now.counts depth (held tables.now) cage.now.creases.now points.old)
+        × (cage.now.own.now ≡ cage_corners cage.now.counts (held tables.now)) }
+    ensures { points.new ≡ with_levels cage.now.weight cage.now.counts depth
+        (held tables.now) cage.now.creases.now points.old }
 {
-    let mut level = cage;
-    for _ in 0..cage.left {
-        refine_level(weight, own, cage.counts, creases, level, tables, points);
+    let mut level = Level {
+        number: 0,
+        left: depth,
+        counts: cage.counts,
+        before: 0,
+        start: 0,
+        at: 0,
+    };
+    for _ in 0..depth {
+        refine_level(cage, level, tables, points);
         level = level.next();
     }
 }
@@ -142,24 +141,18 @@ pub fn refine_points(
     points: &mut [i32],
 )
     requires { ReadyLevels table depth (held tables.now) creases.now points.old }
-    ensures { points.new ≡ with_levels weight table depth (held tables.now)
-        creases.now points.old }
+    ensures { points.new ≡ with_levels weight table depth (held tables.now) creases.now points.old }
 {
     let mut corners = [0u32; HalfedgeTable::MOST_HALFEDGES];
     count_numbers(&tables.vert[..table.halfedges], &mut corners);
-    let cage = Level {
-        number: 0,
-        left: depth,
-        counts: table,
-        before: 0,
-        start: 0,
-        at: 0,
-    };
     climb(
-        weight,
-        &corners[..table.vertices],
-        creases,
-        cage,
+        &Base {
+            weight,
+            own: &corners[..table.vertices],
+            counts: table,
+            creases,
+        },
+        depth,
         tables,
         points,
     );

@@ -26,8 +26,7 @@ fn count_ends(vert: &[u32], counts: &mut [u32], halfedge: usize)
 fn count_halfedge(cage: &Tables, creases: &[u8], level: usize, counts: &mut [u32], halfedge: usize)
     requires { (ForTally (held cage.now) creases.now) × (halfedge < length cage.now.vert.now)
         × (FewCounted counts.old) }
-    ensures { CreasesAdded halfedge level (held cage.now) creases.now
-        counts.old counts.new }
+    ensures { CreasesAdded halfedge level (held cage.now) creases.now counts.old counts.new }
 {
     if cage.twin[halfedge] == HalfedgeTable::NO_TWIN {
         count_ends(cage.vert, counts, halfedge);
@@ -41,8 +40,7 @@ fn count_halfedge(cage: &Tables, creases: &[u8], level: usize, counts: &mut [u32
 // The creases of each of the cage's vertices at a level, which the cage's own numbers tell.
 pub fn count_creases(cage: &Tables, creases: &[u8], level: usize, counts: &mut [u32])
     requires { ForTally (held cage.now) creases.now }
-    ensures { CreasesCounted level (held cage.now) creases.now
-        counts.new }
+    ensures { CreasesCounted level (held cage.now) creases.now counts.new }
 {
     counts.fill(0);
     for halfedge in 0..cage.vert.len() {

@@ -160,9 +160,3 @@ pub record ReadyLevels (t : HalfedgeTable) (depth : ℕ) (lent : Tables) (crease
       → KnownCreases (listed_after d (cage_of t lent) creases t.vertices) (level t (cage_of t lent) d) (creases_at t creases d)
   pub in_range : InRange (take (3 * t.vertices) points)
   pub room : 3 * room_v t depth ≤ length points
-
--- and of a level that is the cage, whose vertices' corners are listed
-pub record ReadyCage (own creases : List ℕ) (x : Level) (lent : Tables) (points : List ℤ) : Type 0 where
-  pub first : x ≡ cage_level x.counts x.left
-  pub ready : ReadyLevels x.counts x.left lent creases points
-  pub listed : own ≡ cage_corners x.counts lent

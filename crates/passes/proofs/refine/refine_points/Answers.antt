@@ -1,6 +1,6 @@
 -- `refine_points` lists the corners of the cage's vertices by a tally of the cage's VERT.
 use Prim.Native.Nat.{◌≤◌}
-use mathlib.Core.Path.{refl, sym}
+use mathlib.Core.Path.{sym}
 use lib.ListN.{length, take, get_or-replicate}
 use lib.Seq.{length-take-le}
 use borrow.Author.Rules.{rules}
@@ -28,4 +28,4 @@ slice_bounds-climb-end c = sym (length-take-le (s (goal.at.slice_bounds-climb-en
 
 pub climb-requires : goal.climb-requires
 climb-requires c =
-    record { first = refl; ready = (s (goal.at.climb-requires c).After-count_numbers).requires; listed = tally_lists (take (s (goal.at.climb-requires c).After-count_numbers).args.table.halfedges (s (goal.at.climb-requires c).After-count_numbers).args.tables.now.vert.now) (s (goal.at.climb-requires c).After-count_numbers).args.table.vertices c.count_numbers.new.tally (enough (goal.at.climb-requires c).After-count_numbers) c.count_numbers.ensures }
+    ((s (goal.at.climb-requires c).After-count_numbers).requires, tally_lists (take (s (goal.at.climb-requires c).After-count_numbers).args.table.halfedges (s (goal.at.climb-requires c).After-count_numbers).args.tables.now.vert.now) (s (goal.at.climb-requires c).After-count_numbers).args.table.vertices c.count_numbers.new.tally (enough (goal.at.climb-requires c).After-count_numbers) c.count_numbers.ensures)
