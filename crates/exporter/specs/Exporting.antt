@@ -6,6 +6,7 @@ use Rattle.halfedges.specs.Cage.{F}
 use Rattle.halfedges.specs.Refusals.{when_done}
 use Rattle.tables.specs.Tables.{Tables}
 use Rattle.filechecks.specs.Contents.{cage_in}
+use Rattle.text.specs.declared.replies.Status.{Status}
 use Rattle.text.specs.declared.replies.Status.TheVariants.{Answered}
 use Rattle.text.specs.declared.replies.Written.{Written}
 use Rattle.text.specs.Replies.{Reply, refused, status_number}
@@ -38,25 +39,21 @@ opening f =
 abbrev pub facets_out : List ℕ → List ℕ
 facets_out f = end_to_end (F (length (corners_out f))) (facet_at (corners_out f) (places_out f))
 
--- the status and the length that are told: those of an answer, or of the refusal
-abbrev pub told_as : Result Opened Written → Written
-told_as (Ok o) = record { status = Answered; length = o.length }
-told_as (Err w) = w
+-- the status that is told: of an answer, or of the refusal
+abbrev pub status_of : Result Opened Written → Status
+status_of (Ok o) = Answered
+status_of (Err w) = w.status
 
--- how many cells of VERT and of the points the facets are made from, none where the cage is refused
-abbrev pub halfedges_out : Result Opened Written → ℕ
-halfedges_out (Ok o) = o.halfedges
-halfedges_out (Err w) = 0
-
-abbrev pub coordinates_out : Result Opened Written → ℕ
-coordinates_out (Ok o) = o.coordinates
-coordinates_out (Err w) = 0
+-- the lengths that are told: a refusal's line goes before no facets
+abbrev pub lengths_of : Result Opened Written → Opened
+lengths_of (Ok o) = o
+lengths_of (Err w) = record { length = w.length; halfedges = 0; coordinates = 0 }
 
 -- the opening stands in front of what the lent text held, and VERT and points of the facets at the fronts of their tables; its length,
 -- the status and the lengths of both are told
 pub record Opens (f before after vert : List ℕ) (points : List ℤ) (told : Result Opened Written) : Type 0 where
-  pub status : status_number (told_as told).status ≡ (exporting f).status
+  pub status : status_number (status_of told) ≡ (exporting f).status
   pub text : after ≡ in_front (opening f) before
-  pub ends : (told_as told).length ≡ length (opening f)
-  pub corners : take (halfedges_out told) vert ≡ corners_out f
-  pub places : take (coordinates_out told) points ≡ places_out f
+  pub ends : (lengths_of told).length ≡ length (opening f)
+  pub corners : take (lengths_of told).halfedges vert ≡ corners_out f
+  pub places : take (lengths_of told).coordinates points ≡ places_out f

@@ -6,7 +6,7 @@ use Rattle.tables.specs.declared.check.Checked.{Checked}
 use Rattle.text.specs.declared.replies.Written.{Written}
 use Rattle.stl.specs.File.{stl_head}
 use Rattle.exporter.specs.declared.exporting.Opened.{Opened}
-use Rattle.exporter.specs.Exporting.{told_as, halfedges_out, coordinates_out}
+use Rattle.exporter.specs.Exporting.{lengths_of}
 
 -- the counts of an accepted cage are small
 pub record Small (c : Checked) : Type 0 where
@@ -24,6 +24,6 @@ pub record Opening (c : Checked) (before after : List ℕ) (r : Opened) : Type 0
 
 -- what is told stands within the text and the tables
 pub record Within (r : Result Opened Written) (out vert : List ℕ) (points : List ℤ) : Type 0 where
-  pub text : (told_as r).length ≤ length out
-  pub corners : halfedges_out r ≤ length vert
-  pub places : coordinates_out r ≤ length points
+  pub text : (lengths_of r).length ≤ length out
+  pub corners : (lengths_of r).halfedges ≤ length vert
+  pub places : (lengths_of r).coordinates ≤ length points
