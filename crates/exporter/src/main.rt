@@ -9,6 +9,7 @@ mod exporting;
 
 use halfedges::table::HalfedgeTable;
 use stl::facets;
+use text::replies::Status;
 use text::streams;
 
 fn main(rt: HostRuntime) {
@@ -27,16 +28,20 @@ fn export_input(rt: &HostRuntime, file: &mut [u8])
     }
 }
 
-// Puts out the opening for a file's bytes, then its facets, then the status.
+// Puts out the opening for a file's bytes, then its facets, then the status; or says the refusal.
 fn export(rt: &HostRuntime, file: &[u8]) {
     let mut vert = [0u32; HalfedgeTable::MOST_HALFEDGES];
     let mut points = [0i32; 3 * HalfedgeTable::MOST_VERTICES];
     let mut out = [0u8; 1024];
-    let opened = exporting::open(file, &mut vert, &mut points, &mut out);
-    if streams::put(rt, &out[..opened.length])
-        && put_facets(rt, &vert[..opened.halfedges], &points[..opened.coordinates])
-    {
-        streams::end(rt, opened.status);
+    match exporting::open(file, &mut vert, &mut points, &mut out) {
+        Ok(opened) => {
+            if streams::put(rt, &out[..opened.length])
+                && put_facets(rt, &vert[..opened.halfedges], &points[..opened.coordinates])
+            {
+                streams::end(rt, Status::Answered);
+            }
+        }
+        Err(refused) => streams::say(rt, &out[..refused.length], refused.status),
     }
 }
 

@@ -1,20 +1,17 @@
--- The reply of each outcome, by what the check of the file answered. Assumes nothing.
---     refused-listing, answered-listing      the reply to a checked cage
---     file_listed, file_small                a file that was checked, and the counts of one that is accepted
+-- The reply to a file, by what its check answered (`file_listed`), and the counts of one that is accepted (`file_small`). Assumes nothing.
 use Prim.Native.Nat.{ℕ, ◌≤◌}
-use mathlib.Core.Path.{◌≡◌, refl, sym, ap, ◌∙◌}
-use mathlib.Core.Logic.{◌≢◌}
+use Rattle.std.specs.Prelude.{Result, Ok, Err, IfOk}
+use mathlib.Core.Path.{◌≡◌, sym, ap, ◌∙◌}
 use mathlib.Core.List.{List, ◌++◌}
-use native.Mathlib.Decide.{ℕ_discrete}
 use native.Mathlib.Omega.{arith}
 use lib.ListN.{length, get_or}
-use borrow.Author.Tests.{eq-eqb, ne_eqb}
 use Rattle.laws.proofs.Counts.{count_at_most}
-use Rattle.halfedges.specs.declared.table.Levels.{Levels}
+use Rattle.halfedges.specs.declared.refusal.Refusal.{Refusal}
 use Rattle.halfedges.specs.Cage.{most_halfedges, most_depth, border, above, E, B}
-use Rattle.halfedges.specs.Refusals.{DONE, told, first}
+use Rattle.halfedges.specs.Refusals.{DONE, first}
 use Rattle.halfedges.specs.Internal.Counts.{AtMost}
 use Rattle.halfedges.specs.Counts.{levels}
+use Rattle.halfedges.proofs.Told.{refused_number}
 use Rattle.tables.specs.declared.check.Checked.{Checked}
 use Rattle.tables.specs.Tables.{counts_of}
 use Rattle.tables.specs.Check.{returned, checked, table_checks}
@@ -33,65 +30,52 @@ use Rattle.lister.specs.Internal.Doubling.{doubled}
 use Rattle.lister.specs.Internal.Steps.{counts, Small, checked_listing}
 use Rattle.lister.proofs.Lines.{lines_alike}
 
--- ---- a cage
+-- an accepted file
+module _ (f : List ℕ) (c : Checked) (e : checked (Ok c) ≡ check_file f) where
+  counted : counts c ≡ counts_of (cage_in f).connectivity (vertices (cage_in f).points)
+  unfolding returned
+  counted = let v = accepted_values f c e in λ i. record { halfedges = get_or (v i).values 0 0; edges = get_or (v i).values 1 0; vertices = get_or (v i).values 3 0 }
 
-module _ (c : Checked) where
-  pub refused-listing : (told c.answer).number ≢ 0 → refused (told c.answer) ≡ checked_listing c
-  unfolding checked_listing
-  refused-listing n = rw (ne_eqb (told c.answer).number 0 n)
+  bordered : c.borders ≡ B (cage_in f).connectivity.twin
+  unfolding returned
+  bordered = ap (λ s. get_or s.values 4 0) (accepted_values f c e)
 
-  pub answered-listing : (told c.answer).number ≡ 0 → (l : Levels) → l ≡ levels (counts c) most_depth → answered (level_lines l (doubled c.borders)) ≡ checked_listing c
-  unfolding checked_listing
-  answered-listing z l e = rw (eq-eqb (told c.answer).number 0 z, e)
+  fits : Fits (cage_in f).connectivity (cage_in f).points
+  fits = accepted_fits (cage_in f).connectivity (cage_in f).points (plain-accepted f (accepts f c e))
 
-module _ (f : List ℕ) (r : Checked) (e : checked r ≡ check_file f) where
-  told_verdict : told r.answer ≡ (check_file f).verdict
-  told_verdict = ap (λ s. s.verdict) e
+  few_counts : AtMost most_halfedges (counts c)
+  unfolding E
+  few_counts =
+      rw counted
+      (record { halfedges = fits.few_halfedges; edges = omega (arith, fits.few_halfedges, count_at_most (length (cage_in f).connectivity.twin) (above (cage_in f).connectivity.twin)); vertices = omega (arith, fits.few_vertices) })
 
-  module _ (z : (told r.answer).number ≡ 0) where
-    counted : counts r ≡ counts_of (cage_in f).connectivity (vertices (cage_in f).points)
-    unfolding returned
-    counted = let v = accepted_values f r e z in λ i. record { halfedges = get_or (v i).values 0 0; edges = get_or (v i).values 1 0; vertices = get_or (v i).values 3 0 }
+  few_borders : c.borders ≤ most_halfedges
+  unfolding B
+  few_borders = omega (arith, bordered, fits.few_halfedges, count_at_most (length (cage_in f).connectivity.twin) (border (cage_in f).connectivity.twin))
 
-    bordered : r.borders ≡ B (cage_in f).connectivity.twin
-    unfolding returned
-    bordered = ap (λ s. get_or s.values 4 0) (accepted_values f r e z)
+  tables_done : first (table_checks (cage_in f).connectivity (vertices (cage_in f).points) 0) ≡ DONE
+  tables_done = tables-accepted (cage_in f).connectivity (cage_in f).points 0 fits.shaped.threes (plain-accepted f (accepts f c e))
 
-    fits : Fits (cage_in f).connectivity (cage_in f).points
-    fits = accepted_fits (cage_in f).connectivity (cage_in f).points (plain-accepted f (accepts f r e z))
+  -- demand 3: border edges double
+  doubled_borders : (k : ℕ) → k ≤ most_depth → doubled c.borders k ≡ level_borders (counts_of (cage_in f).connectivity (vertices (cage_in f).points)) (cage_in f).connectivity k
+  unfolding level_borders
+  doubled_borders k l = ap (λ b. doubled b k) bordered ∙ sym (accepted (cage_in f).connectivity (vertices (cage_in f).points) 0 tables_done k l).border_edges
 
-    few_counts : AtMost most_halfedges (counts r)
-    unfolding E
-    few_counts =
-        rw counted
-        (record { halfedges = fits.few_halfedges; edges = omega (arith, fits.few_halfedges, count_at_most (length (cage_in f).connectivity.twin) (above (cage_in f).connectivity.twin)); vertices = omega (arith, fits.few_vertices) })
+  lines_listed : level_lines (levels (counts c) most_depth) (doubled c.borders) ≡ cage_lines (cage_in f).connectivity (cage_in f).points
+  unfolding cage_lines level_lines
+  lines_listed =
+      let l = levels (counts c) most_depth in
+      let bs = level_borders (counts_of (cage_in f).connectivity (vertices (cage_in f).points)) (cage_in f).connectivity in
+      ap (λ t. t ++ room_line l.halfedge_room l.vertex_room l.edge_room) (lines_alike l (doubled c.borders) bs 7 (λ k h. doubled_borders k (omega arith)))
+      ∙ ap (λ t. level_lines (levels t most_depth) bs) counted
 
-    few_borders : r.borders ≤ most_halfedges
-    unfolding B
-    few_borders = omega (arith, bordered, fits.few_halfedges, count_at_most (length (cage_in f).connectivity.twin) (border (cage_in f).connectivity.twin))
+-- any file
+module _ (f : List ℕ) where
+  pub file_listed : (x : Result Checked Refusal) → checked x ≡ check_file f → checked_listing x ≡ listing f
+  file_listed (Ok c) e = ap answered (lines_listed f c e) ∙ reply_answered f cage_lines (accepts f c e)
+  file_listed (Err q) e =
+      ap (λ s. refused s.verdict) e ∙ reply_refused f cage_lines (λ z. refused_number q (ap (λ s. s.verdict.number) e ∙ z))
 
-    tables_done : first (table_checks (cage_in f).connectivity (vertices (cage_in f).points) 0) ≡ DONE
-    tables_done = tables-accepted (cage_in f).connectivity (cage_in f).points 0 fits.shaped.threes (plain-accepted f (accepts f r e z))
-
-    -- demand 3: border edges double
-    doubled_borders : (k : ℕ) → k ≤ most_depth → doubled r.borders k ≡ level_borders (counts_of (cage_in f).connectivity (vertices (cage_in f).points)) (cage_in f).connectivity k
-    unfolding level_borders
-    doubled_borders k l = ap (λ b. doubled b k) bordered ∙ sym (accepted (cage_in f).connectivity (vertices (cage_in f).points) 0 tables_done k l).border_edges
-
-    lines_listed : level_lines (levels (counts r) most_depth) (doubled r.borders) ≡ cage_lines (cage_in f).connectivity (cage_in f).points
-    unfolding cage_lines level_lines
-    lines_listed =
-        let l = levels (counts r) most_depth in
-        let bs = level_borders (counts_of (cage_in f).connectivity (vertices (cage_in f).points)) (cage_in f).connectivity in
-        ap (λ t. t ++ room_line l.halfedge_room l.vertex_room l.edge_room) (lines_alike l (doubled r.borders) bs 7 (λ k h. doubled_borders k (omega arith)))
-        ∙ ap (λ t. level_lines (levels t most_depth) bs) counted
-
-  pub file_listed : checked_listing r ≡ listing f
-  file_listed = by (ℕ_discrete (told r.answer).number 0)
-    where
-      by : Dec ((told r.answer).number ≡ 0) → checked_listing r ≡ listing f
-      by (yes z) = sym (answered-listing r z _ refl) ∙ ap answered (lines_listed z) ∙ reply_answered f cage_lines (ap (λ v. v.number) (sym told_verdict) ∙ z)
-      by (no n) = sym (refused-listing r n) ∙ ap refused told_verdict ∙ reply_refused f cage_lines (λ z. n (ap (λ v. v.number) told_verdict ∙ z))
-
-  pub file_small : Small r
-  file_small = record { few_counts = few_counts; few_borders = few_borders }
+  pub file_small : (x : Result Checked Refusal) → checked x ≡ check_file f → IfOk x Small
+  file_small (Ok c) e = record { few_counts = few_counts f c e; few_borders = few_borders f c e }
+  file_small (Err q) e = tt

@@ -1,5 +1,5 @@
 // The listing of a file's bytes: read, checked and listed, or the refusal.
-ghost use Rattle.std.specs.Prelude.{◌≡◌, [], ◌∷◌, ◌++◌, ◌+◌, ◌*◌, ◌≤◌, length};
+ghost use Rattle.std.specs.Prelude.{◌≡◌, [], ◌∷◌, ◌++◌, ◌+◌, ◌*◌, ◌≤◌, IfOk, Ok, length};
 ghost use Rattle.io.specs.Counts.{IsPrefixLen};
 ghost use Rattle.laws.specs.Below.{end_to_end};
 ghost use Rattle.halfedges.specs.Cage.{most_halfedges};
@@ -11,6 +11,7 @@ ghost use Rattle.lister.specs.Listing.{level_line, level_lines, listing};
 ghost use Rattle.lister.specs.Internal.Doubling.{doubled};
 ghost use Rattle.lister.specs.Internal.Steps.{Small, checked_listing};
 
+use halfedges::refusal::Refusal;
 use halfedges::table::{HalfedgeTable, Levels};
 use tables::check::Checked;
 use text::lines::LevelCounts;
@@ -22,12 +23,16 @@ pub fn list(file: &[u8], out: &mut [u8; 1024]) -> Written
     ensures says { Says (listing file.now) out.old out.new result }
     ensures prefix_len { IsPrefixLen result.length out.new }
 {
-    put_listing(out, check_file(file))
+    match check_file(file) {
+        Ok(checked) => put_listing(&mut *out, checked),
+        Err(refusal) => replies::put_refusal(&mut *out, refusal),
+    }
 }
 
 // The check of the cage in a file, read into tables that have room for any.
-fn check_file(file: &[u8]) -> Checked
-    ensures { Small result × (checked_listing result ≡ listing file.now) }
+fn check_file(file: &[u8]) -> Result<Checked, Refusal>
+    ensures small { IfOk result Small }
+    ensures listed { checked_listing result ≡ listing file.now }
 {
     let mut twin = [0u32; HalfedgeTable::MOST_HALFEDGES];
     let mut vert = [0u32; HalfedgeTable::MOST_HALFEDGES];
@@ -36,15 +41,11 @@ fn check_file(file: &[u8]) -> Checked
     intake::check_file(file, &mut twin, &mut vert, &mut edge, &mut points)
 }
 
-// The reply to a cage that was checked.
+// The listing of a cage that was accepted.
 fn put_listing(out: &mut [u8], checked: Checked) -> Written
     requires { Small checked × (1024 ≤ length out.old) }
-    ensures { Replied out.old 1024 (checked_listing checked) out.new result }
+    ensures { Replied out.old 1024 (checked_listing (Ok checked)) out.new result }
 {
-    let answer = checked.answer;
-    if answer.number() != 0 {
-        return replies::put_refusal(&mut *out, answer);
-    }
     let table = HalfedgeTable {
         halfedges: checked.halfedges,
         edges: checked.edges,

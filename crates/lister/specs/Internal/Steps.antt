@@ -1,8 +1,9 @@
 -- What the lister's functions hand on: no promise cites these.
-use Rattle.std.specs.Prelude.{◌≤◌, ◌≡◌}
+use Rattle.std.specs.Prelude.{◌≤◌, Result, Ok, Err}
+use Rattle.halfedges.specs.declared.refusal.Refusal.{Refusal}
 use Rattle.halfedges.specs.declared.table.HalfedgeTable.{HalfedgeTable}
 use Rattle.halfedges.specs.Cage.{most_halfedges, most_depth}
-use Rattle.halfedges.specs.Refusals.{told, when_done}
+use Rattle.halfedges.specs.Refusals.{refused as refused_as}
 use Rattle.halfedges.specs.Internal.Counts.{AtMost}
 use Rattle.halfedges.specs.Counts.{levels}
 use Rattle.tables.specs.declared.check.Checked.{Checked}
@@ -14,13 +15,12 @@ use Rattle.lister.specs.Internal.Doubling.{doubled}
 abbrev pub counts : Checked → HalfedgeTable
 counts c = record { halfedges = c.halfedges; edges = c.edges; vertices = c.vertices }
 
--- where the cage was accepted, its counts are small
+-- the counts of an accepted cage are small
 pub record Small (c : Checked) : Type 0 where
-  pub few_counts : (told c.answer).number ≡ 0 → AtMost most_halfedges (counts c)
-  pub few_borders : (told c.answer).number ≡ 0 → c.borders ≤ most_halfedges
+  pub few_counts : AtMost most_halfedges (counts c)
+  pub few_borders : c.borders ≤ most_halfedges
 
 -- the reply to a cage that was checked: the lines by its counts, or the refusal
-unfoldable pub checked_listing : Checked → Reply
-checked_listing c =
-    let lines = level_lines (levels (counts c) most_depth) (doubled c.borders) in
-    when_done (told c.answer) (answered lines) (refused (told c.answer))
+abbrev pub checked_listing : Result Checked Refusal → Reply
+checked_listing (Ok c) = answered (level_lines (levels (counts c) most_depth) (doubled c.borders))
+checked_listing (Err q) = refused (refused_as q)

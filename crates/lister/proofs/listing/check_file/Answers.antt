@@ -3,4 +3,6 @@ use Rattle.lister.proofs.Outcomes.{file_listed, file_small}
 use Rattle.lister.proofs.listing.check_file.Goals as goal
 
 pub returns : goal.returns
-returns c = let r = c.check_file in (file_small _ r.result r.ensures.result_value, file_listed _ r.result r.ensures.result_value)
+returns c =
+    let r = c.check_file in
+    record { small = file_small _ r.result r.ensures.result_value; listed = file_listed _ r.result r.ensures.result_value }

@@ -1,5 +1,5 @@
 -- `put_lines` keeps the lines put so far, and B as often doubled.
-use mathlib.Core.Path.{◌≡◌, refl, ◌∙◌}
+use mathlib.Core.Path.{◌≡◌}
 use native.Mathlib.Omega.{arith}
 use Rattle.text.proofs.Texts.{put_none, put_next}
 use Rattle.lister.specs.Listing.{level_line}

@@ -1,6 +1,5 @@
-use Prim.Native.Nat.{◌*◌, ◌-◌, ◌≤◌}
+use Prim.Native.Nat.{◌*◌}
 use mathlib.Core.Path.{◌≡◌}
-use lib.ListN.{length}
 use Rattle.laws.specs.Below.{end_to_end}
 use Rattle.text.specs.Internal.Put.{Put}
 use Rattle.lister.specs.Listing.{level_line}
