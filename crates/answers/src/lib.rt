@@ -67,7 +67,7 @@ pub fn of_reading(read: Result<Reading, Refusal>) -> [u32; 7]
         Ok(read) => [
             0,
             0,
-            read.form.number(),
+            u32::from(read.form),
             read.halfedges as u32,
             read.vertices as u32,
             read.edges as u32,
