@@ -71,7 +71,7 @@ pub fn of_reading(read: Result<Reading, Refusal>) -> [u32; 7]
             read.halfedges as u32,
             read.vertices as u32,
             read.edges as u32,
-            read.weight.number(),
+            u32::from(read.weight),
         ],
         Err(refusal) => [
             refusal.number() as u32,

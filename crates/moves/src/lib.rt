@@ -116,8 +116,5 @@ fn write_form(form: Form, cage: &Cage, weight: Weight, lent: &mut [u8]) -> Resul
 fn is_numbered(creases: &[u8], weight: Weight) -> bool
     ensures { result ≡ numbered creases.now weight }
 {
-    if weight.number() != 0 {
-        return true;
-    }
-    sharp::any_sharp(creases, 0)
+    u32::from(weight) != 0 || sharp::any_sharp(creases, 0)
 }

@@ -2,11 +2,9 @@
 --     entries_below                  "Across the table, n·w is below 2^24", by one computed test over it
 --     shares_within                  so by either weight n spokes have no more than the whole
 --     whole_some, -small, -even      which is some, no large number, and even
---     paper_else                     every number but 0 is the paper's weight
 --     below, past, listed            the entry of a valence, by where it lies
 use Prim.Native.Nat.{ℕ, zero, suc, ◌-◌, ◌*◌, ◌%◌, ◌^◌, ◌≤◌, ◌<◌}
 use mathlib.Core.Path.{◌≡◌, refl}
-use mathlib.Core.Logic.{◌≢◌}
 use mathlib.Core.Bool.{false}
 use native.Mathlib.Decide.{dec_le}
 use native.Mathlib.Nat.{mul-zero}
@@ -18,7 +16,7 @@ use Rattle.laws.specs.Below.{any}
 use Rattle.laws.proofs.Tests.{any_false}
 use Rattle.points.specs.declared.weights.Weight.{Weight}
 use Rattle.points.specs.declared.weights.Weight.TheVariants.{Short, Paper}
-use Rattle.points.specs.Weights.{weight_of, entries, entry, most_valence, share}
+use Rattle.points.specs.Weights.{entries, entry, most_valence, share}
 use Rattle.points.specs.Internal.Relied.{most_corners}
 
 -- the test over the table
@@ -63,7 +61,3 @@ whole_small Paper n few = omega arith
 pub whole_even : (w : Weight) (n : ℕ) → (share w n).whole % 2 ≡ 0
 whole_even Short n = omega arith
 whole_even Paper n = refl
-
-pub paper_else : (n : ℕ) → n ≢ 0 → weight_of n ≡ Paper
-paper_else zero some = absurd (some refl)
-paper_else (suc n) some = refl

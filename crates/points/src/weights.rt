@@ -30,27 +30,31 @@ const ENTRIES: [u32; 31] = [
     163834, 157062, 150842, 145105, 139799, 134874, 130292, 126016,
 ];
 
-impl Weight {
-    // The weight of a number: 0 for the short one, and any other for the paper's.
-    pub fn numbered(number: u32) -> Weight
-        ensures { result ≡ weight_of number }
-    {
+// The weight of a number: 0 for the short one, and any other for the paper's.
+impl From<u32> for Weight {
+    ghost from_gives = { λ number weight. weight ≡ weight_of number };
+
+    fn from(number: u32) -> Weight {
         if number == 0 {
             return Weight::Short;
         }
         Weight::Paper
     }
+}
 
-    // Its number in a file.
-    pub fn number(self) -> u32
-        ensures { result ≡ weight_number self }
-    {
-        match self {
+// Its number in a file.
+impl From<Weight> for u32 {
+    ghost from_gives = { λ weight number. number ≡ weight_number weight };
+
+    fn from(weight: Weight) -> u32 {
+        match weight {
             Weight::Short => 0,
             Weight::Paper => 1,
         }
     }
+}
 
+impl Weight {
     // What one spoke of a vertex with so many corners has.
     pub fn share(self, corners: u32) -> Share
         requires { corners ≤ most_corners }

@@ -82,7 +82,7 @@ fn copy_rest(file: &[u8], points: &mut [i32], creases: &mut [u8]) -> Weight
             copies::copy_creases(file, at, creases, edges);
             let points_at = at + edges + fields::HEAD;
             copies::copy_points(file, points_at, points, coordinates);
-            Weight::numbered(u32::from(file[points_at + 4 * coordinates + fields::HEAD]))
+            Weight::from(u32::from(file[points_at + 4 * coordinates + fields::HEAD]))
         }
     }
 }

@@ -155,7 +155,7 @@ pub extern "C" fn ryebadger_refine(
         points,
         creases,
     };
-    let chosen = Weight::numbered(weight);
+    let chosen = Weight::from(weight);
     let counted = refining::refine(&cage, depth, chosen, twins, verts, edges, places, seams);
     *answer = answers::of_counts(counted);
 }
@@ -252,7 +252,7 @@ pub extern "C" fn ryebadger_write_form_2(
         points,
         creases,
     };
-    let told = Weight::numbered(weight);
+    let told = Weight::from(weight);
     let writing = writing::write_form_2(&cage, told, file);
     *answer = answers::of_writing(writing);
 }

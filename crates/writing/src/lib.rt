@@ -171,7 +171,7 @@ fn write_creased(file: &mut [u8], cage: &Cage, weight: Weight) -> usize
     let creases_at = write_tables(&mut *file, Form::Two, &cage.tables, cage.vertices());
     let points_at = write_bytes(&mut *file, creases_at, fields::CREASES, cage.creases);
     let weight_at = write_points(&mut *file, points_at, cage.points);
-    let byte = [weight.number() as u8];
+    let byte = [u32::from(weight) as u8];
     let end_at = write_bytes(&mut *file, weight_at, fields::WEIGHT, &byte);
     write_end(&mut *file, end_at)
 }

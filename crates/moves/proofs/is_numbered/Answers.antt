@@ -5,7 +5,7 @@ use mathlib.Core.Logic.{◌≢◌}
 use mathlib.Core.Bool.{true}
 use mathlib.Core.List.{List}
 use native.Mathlib.Omega.{arith}
-use borrow.Author.Tests.{lt-ltb, le-ltb}
+use borrow.Author.Tests.{ne_eqb, lt-ltb, le-ltb}
 use Rattle.laws.proofs.Tests.{or_true, or_false_right}
 use Rattle.points.specs.declared.weights.Weight.{Weight}
 use Rattle.points.specs.Weights.{weight_number}
@@ -22,8 +22,8 @@ module _ (creases : List ℕ) (w : Weight) where
   unfolding numbered any_sharp
   by_creases z = rw (le-ltb 0 (weight_number w) (omega arith), or_false_right)
 
-pub returns-then-number-ne0 : goal.returns-then-number-ne0
-returns-then-number-ne0 c = weighted _ _ (λ z. omega (arith, c.number.ensures, c.if-number-ne0.true))
+pub returns-then-from-ne0 : goal.returns-then-from-ne0
+returns-then-from-ne0 c = rw (ne_eqb c.from.result 0 c.if-from-ne0.true) (weighted _ _ (λ z. omega (arith, c.from.ensures, c.if-from-ne0.true)))
 
-pub returns : goal.returns
-returns c = c.any_sharp.ensures ∙ by_creases _ _ (omega (arith, c.number.ensures, c.if-number-ne0.false))
+pub returns-else-from-ne0 : goal.returns-else-from-ne0
+returns-else-from-ne0 c = c.any_sharp.ensures ∙ by_creases _ _ (omega (arith, c.from.ensures, c.if-from-ne0.false))

@@ -71,7 +71,7 @@ returns-in-Two c =
     let v = c.vertices_in-coordinates.ensures.0 in
     let two = sym c.form_of.ensures ∙ c.in-Two.is in
     let e = c.edges_in-edges.ensures.0 in (
-      rw (c.from.ensures, c.after_tables-at.ensures, creased_weight f _ _ h v two _ e) at c.numbered.ensures,
+      rw (c.from.ensures, c.after_tables-at.ensures, creased_weight f _ _ h v two _ e) at c.from-in-Two.ensures,
       rw (c.after_tables-at.ensures, creased_points f _ _ h v two _ e) at c.copy_points-in-Two.ensures,
       rw (c.after_tables-at.ensures, creases_at_lem f _ _ h e) at c.copy_creases.ensures,
     )

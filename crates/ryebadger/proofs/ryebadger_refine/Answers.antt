@@ -10,14 +10,14 @@ use Rattle.answers.specs.Cells.{level_cells}
 use Rattle.answers.specs.Internal.Fitting.{Fitting, Sevens}
 use Rattle.answers.proofs.Answers.{refine_fits, levels-told}
 use Rattle.ryebadger.proofs.ryebadger_refine.Goals as goal
-use Rattle.ryebadger.proofs.ryebadger_refine.Goals.{After-numbered-chosen, After-refine-counted, Start}
+use Rattle.ryebadger.proofs.ryebadger_refine.Goals.{After-from-chosen, After-refine-counted, Start}
 
 module _ (r : After-refine-counted) where
-  abbrev n : After-numbered-chosen
-  n = (goal.at.After-refine-counted r).After-numbered-chosen
+  abbrev n : After-from-chosen
+  n = (goal.at.After-refine-counted r).After-from-chosen
 
   abbrev s : Start
-  s = (goal.at.After-numbered-chosen n).Start
+  s = (goal.at.After-from-chosen n).Start
 
   -- what refining leaves, by a weight
   abbrev after : Weight → Refined
@@ -28,19 +28,19 @@ module _ (r : After-refine-counted) where
       s.args.seams.now
 
   fits : IfOk r.refine-counted.result Sevens × Fitting (level_cells (counted r.refine-counted.result))
-  fits = levels-told r.refine-counted.result (after n.numbered-chosen.result).answer r.refine-counted.ensures.0 (refine_fits _ _ _ _ _ _ _ _)
+  fits = levels-told r.refine-counted.result (after n.from-chosen.result).answer r.refine-counted.ensures.0 (refine_fits _ _ _ _ _ _ _ _)
 
   put : level_cells (counted r.refine-counted.result) ≡ level_cells (after (weight_of s.args.weight)).answer
   put =
-      ap level_cells {y = (after n.numbered-chosen.result).answer} r.refine-counted.ensures.0
-      ∙ ap (λ w. level_cells (after w).answer) n.numbered-chosen.ensures
+      ap level_cells {y = (after n.from-chosen.result).answer} r.refine-counted.ensures.0
+      ∙ ap (λ w. level_cells (after w).answer) n.from-chosen.ensures
 
 pub of_counts-requires : goal.of_counts-requires
 of_counts-requires c = fits (goal.at.of_counts-requires c).After-refine-counted
 
 pub returns : goal.returns
 returns c =
-    let chosen = (n (goal.at.returns c).After-refine-counted).numbered-chosen.ensures in (
+    let chosen = (n (goal.at.returns c).After-refine-counted).from-chosen.ensures in (
       c.of_counts.ensures ∙ put (goal.at.returns c).After-refine-counted,
       c.refine-counted.ensures.1 ∙ ap (λ w. (after (goal.at.returns c).After-refine-counted w).lent) chosen,
       c.refine-counted.ensures.2 ∙ ap (λ w. (after (goal.at.returns c).After-refine-counted w).points) chosen,

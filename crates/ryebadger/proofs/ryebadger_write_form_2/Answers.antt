@@ -26,4 +26,4 @@ returns c =
     s.file.now
     in
     let r = c.write_form_2-writing.ensures in
-    (c.of_writing.ensures ∙ ap length_cells (r.0 ∙ ap (λ w. (after w).answer) c.numbered-told.ensures), r.1 ∙ ap (λ w. (after w).file) c.numbered-told.ensures)
+    (c.of_writing.ensures ∙ ap length_cells (r.0 ∙ ap (λ w. (after w).answer) c.from-told.ensures), r.1 ∙ ap (λ w. (after w).file) c.from-told.ensures)

@@ -46,7 +46,7 @@ pub write_points-weight_at-requires : goal.write_points-weight_at-requires
 write_points-weight_at-requires c = omega (arith, room ((goal.at.write_points-weight_at-requires c).Start), fits ((goal.at.write_points-weight_at-requires c).Start))
 
 pub overflow_cast-byte : goal.overflow_cast-byte
-overflow_cast-byte c = omega (arith, c.number.ensures, weight_small (goal.at.overflow_cast-byte c).Start.args.weight)
+overflow_cast-byte c = omega (arith, c.from.ensures, weight_small (goal.at.overflow_cast-byte c).Start.args.weight)
 
 pub write_bytes-end_at-requires : goal.write_bytes-end_at-requires
 write_bytes-end_at-requires c = omega (arith, room ((goal.at.write_bytes-end_at-requires c).Start), fits ((goal.at.write_bytes-end_at-requires c).Start))
@@ -61,5 +61,5 @@ returns c =
     let left₁ = tables_behind Two (cage s) (fits s) (rw c.vertices.ensures at c.write_tables-creases_at.ensures) in
     let left₂ = left_next left₁ (numbered s) refl refl c.write_bytes-points_at.ensures in
     let left₃ = points_next s.args.cage.now.points.now (fits s).shaped.threes left₂ c.write_points-weight_at.ensures in
-    let left₄ = left_next left₃ refl (ap (λ n. n ∷ []) c.number.ensures) refl c.write_bytes-end_at.ensures in
+    let left₄ = left_next left₃ refl (ap (λ n. n ∷ []) c.from.ensures) refl c.write_bytes-end_at.ensures in
     end_written left₄ c.write_end.ensures
