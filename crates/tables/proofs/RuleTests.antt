@@ -21,29 +21,13 @@ module _ (twin : List ℕ) (h : ℕ) where
   twin_none m = simp (eq-eqb _ _ m)
 
   module _ (n : cell twin h ≢ marker) where
-    pub twin_past_lem : length twin ≤ cell twin h → true ≡ bad_twin twin h
-    unfolding bad_twin
-    twin_past_lem p = simp (ne_eqb _ _ n, le-leb _ _ p)
-
     module _ (l : cell twin h < length twin) where
-      pub twin_itself_lem : cell twin h ≡ h → true ≡ bad_twin twin h
-      unfolding bad_twin
-      twin_itself_lem e = simp (ne_eqb _ _ n, lt-leb _ _ l, eq-eqb _ _ e)
-
       pub twin_back : cell twin h ≢ h → not (eqb (cell twin (cell twin h)) h) ≡ bad_twin twin h
       unfolding bad_twin
       twin_back e = simp (ne_eqb _ _ n, lt-leb _ _ l, ne_eqb _ _ e)
 
 module _ (twin vert : List ℕ) (v h : ℕ) where
-  pub vertex_past_lem : v ≤ cell vert h → true ≡ bad_vertex twin vert v h
-  unfolding bad_vertex
-  vertex_past_lem p = simp (le-leb _ _ p)
-
   module _ (l : cell vert h < v) where
-    pub vertex_ends : cell vert h ≡ cell vert (NEXT h) → true ≡ bad_vertex twin vert v h
-    unfolding bad_vertex
-    vertex_ends e = simp (lt-leb _ _ l, eq-eqb _ _ e)
-
     module _ (n : cell vert h ≢ cell vert (NEXT h)) where
       pub vertex_none : cell twin h ≡ marker → false ≡ bad_vertex twin vert v h
       unfolding bad_vertex

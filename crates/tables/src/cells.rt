@@ -12,11 +12,9 @@ pub fn wide(number: u32) -> usize
 }
 
 // h > t, where a missing twin t counts as lower than every halfedge.
+#[tactic(auto, using(std::proofs::lemmas::Bool::Decides::nat_tests))]
 pub fn is_above(twin: u32, halfedge: usize) -> bool
     ensures { result ≡ is_above twin halfedge }
 {
-    if twin == HalfedgeTable::NO_TWIN {
-        return true;
-    }
-    wide(twin) < halfedge
+    twin == HalfedgeTable::NO_TWIN || halfedge > twin as usize
 }
