@@ -46,7 +46,7 @@ pub fn check_vertices(twin: &[u32], vert: &[u32], vertices: usize) -> Result<(),
     Ok(())
 }
 
-#[tactic(auto, using(std::proofs::lemmas::Bool::Decides::nat_tests), unfolding(crate::specs::Rules::bad_vertex))]
+#[tactic(auto, using(std::proofs::lemmas::Bool::Decides::nat_tests, halfedges::proofs::Triangle::next_below), unfolding(crate::specs::Rules::bad_vertex))]
 fn bad_vertex(twin: &[u32], vert: &[u32], vertices: usize, halfedge: usize) -> bool
     requires { ForVertices twin.now vert.now × (halfedge < length twin.now) }
     ensures { result ≡ bad_vertex twin.now vert.now vertices halfedge }
@@ -153,18 +153,16 @@ fn first_bad_edge(carriers: &[u32], twin: &[u32], edge: &[u32], edges: usize) ->
     Ok(())
 }
 
+#[tactic(auto, using(std::proofs::lemmas::Bool::Decides::nat_tests, crate::proofs::Carriers::alone_count, crate::proofs::Carriers::paired_count), unfolding(crate::specs::Rules::bad_edge))]
 fn bad_edge(carriers: &[u32], twin: &[u32], edge: &[u32], edges: usize, halfedge: usize) -> bool
     requires { ForEdges twin.now edge.now × TalliedTo edges edge.now carriers.now × (halfedge < length twin.now) }
     ensures { result ≡ bad_edge twin.now edge.now edges halfedge }
 {
     let own = edge[halfedge];
-    let number = own as usize;
     let t = twin[halfedge];
-    if edges <= number {
-        true
-    } else if t == HalfedgeTable::NO_TWIN {
-        carriers[number] != 1
-    } else {
-        edge[t as usize] != own || carriers[number] != 2
-    }
+    // what carries its edge: it alone, or it and its twin
+    let carried = if t == HalfedgeTable::NO_TWIN { 1 } else { 2 };
+    edges <= own as usize
+        || t != HalfedgeTable::NO_TWIN && edge[t as usize] != own
+        || carriers[own as usize] != carried
 }
