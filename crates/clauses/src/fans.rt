@@ -9,7 +9,6 @@ ghost use Rattle.clauses.specs.Internal.Marks.{step as Marks-step, Marked, Joins
 
 use crate::Clause;
 use halfedges::table::HalfedgeTable;
-use tables::cells::wide;
 
 // Rule 7, where rule 3 is kept.
 pub fn fan_clause(twin: &[u32], vert: &[u32], vertex: usize) -> Clause
@@ -32,7 +31,7 @@ fn lowest_corner(vert: &[u32], vertex: usize) -> usize
     ensures { result ≡ lowest_corner vert.now vertex }
 {
     vert.iter()
-        .position(|corner| wide(*corner) == vertex)
+        .position(|corner| *corner as usize == vertex)
         .unwrap_or(vert.len())
 }
 
@@ -42,7 +41,7 @@ fn lowest_apart(marks: &[u32], twin: &[u32], vert: &[u32], vertex: usize, corner
     ensures { result ≡ lowest_apart twin.now vert.now vertex corner }
 {
     for halfedge in 0..vert.len() {
-        if wide(vert[halfedge]) == vertex && marks[halfedge] == 0 {
+        if vert[halfedge] as usize == vertex && marks[halfedge] == 0 {
             return halfedge;
         }
     }
@@ -72,7 +71,7 @@ fn mark(twin: &[u32], marks: &mut [u32], corner: usize, along: bool)
         if other == HalfedgeTable::NO_TWIN {
             return;
         }
-        at = wide(other);
+        at = other as usize;
         if at == corner {
             return;
         }
@@ -92,5 +91,5 @@ fn step(twin: &[u32], halfedge: usize, along: bool) -> u32
     if t == HalfedgeTable::NO_TWIN {
         return t;
     }
-    HalfedgeTable::next(wide(t)) as u32
+    HalfedgeTable::next(t as usize) as u32
 }

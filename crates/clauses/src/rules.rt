@@ -10,7 +10,6 @@ ghost use Rattle.clauses.specs.Internal.Reached.{BrokenAt};
 
 use crate::Clause;
 use halfedges::table::HalfedgeTable;
-use tables::cells::wide;
 use tables::rules::count_edges;
 
 // Rule 3.
@@ -20,7 +19,7 @@ pub fn twin_clause(twin: &[u32], halfedge: usize) -> Clause
     ensures rule { broken result halfedge ≡ TWIN halfedge }
 {
     let t = twin[halfedge];
-    let other = wide(t);
+    let other = t as usize;
     if twin.len() <= other {
         return Clause::TwinPast {
             twin: t,
@@ -44,7 +43,7 @@ pub fn vertex_clause(twin: &[u32], vert: &[u32], vertices: usize, halfedge: usiz
     ensures rule { broken result halfedge ≡ VERTEX halfedge }
 {
     let vertex = vert[halfedge];
-    if vertices <= wide(vertex) {
+    if vertices <= vertex as usize {
         return Clause::VertexPast {
             vertex,
             vertices: vertices as u32,
@@ -59,7 +58,7 @@ pub fn vertex_clause(twin: &[u32], vert: &[u32], vertices: usize, halfedge: usiz
         };
     }
     let t = twin[halfedge];
-    let other = wide(t);
+    let other = t as usize;
     Clause::TwinEndsDiffer {
         twin: t,
         start: vert[other],
@@ -75,7 +74,7 @@ pub fn edge_clause(twin: &[u32], edge: &[u32], halfedge: usize) -> Clause
 {
     let edges = count_edges(twin);
     let own = edge[halfedge];
-    if edges <= wide(own) {
+    if edges <= own as usize {
         return Clause::EdgePast {
             edge: own,
             edges: edges as u32,
@@ -83,7 +82,7 @@ pub fn edge_clause(twin: &[u32], edge: &[u32], halfedge: usize) -> Clause
     }
     let t = twin[halfedge];
     if t != HalfedgeTable::NO_TWIN {
-        let other = wide(t);
+        let other = t as usize;
         let twins = edge[other];
         if twins != own {
             return Clause::EdgeDiffers {
@@ -119,5 +118,5 @@ fn is_stranger(twin: &[u32], edge: &[u32], halfedge: usize, place: usize) -> boo
     requires { (length edge.now ≡ length twin.now) × (halfedge < length twin.now) × (place < length edge.now) }
     ensures { result ≡ stranger twin.now edge.now halfedge place }
 {
-    edge[place] == edge[halfedge] && place != halfedge && place != wide(twin[halfedge])
+    edge[place] == edge[halfedge] && place != halfedge && place != twin[halfedge] as usize
 }

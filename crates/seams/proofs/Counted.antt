@@ -32,12 +32,12 @@ at_most_one : (b : Bool) → cond b 1 0 ≤ 1
 at_most_one true = omega arith
 at_most_one false = omega arith
 
-module _ (before counts : List ℕ) (long : length counts ≡ length before) (from : ℕ) (first : Bumped from before counts) where
+module _ (before counts : List ℕ) (long : length counts ≡ length before) (vert : List ℕ) (h : ℕ) (first : Bumped (cell vert h) before counts) where
   pub bumped_few : FewCounted before → (u : ℕ) → u < length counts → cell counts u < 2 ^ 31
-  bumped_few few u l = omega (arith, first u (omega arith), few u (omega arith), at_most_one (eqb from u))
+  bumped_few few u l = omega (arith, first u (omega arith), few u (omega arith), at_most_one (eqb (cell vert h) u))
 
-  pub ends_added : (vert : List ℕ) (h : ℕ) (after : List ℕ) {to : ℕ} → from ≡ cell vert h → to ≡ far vert h → Bumped to counts after → EndsAdded vert h before after
-  ends_added vert h after p q second = record { each = λ u l. rw (← p, ← q) (omega (arith, first u l, second u (omega arith))) }
+  pub ends_added : (after : List ℕ) {to : ℕ} → to ≡ far vert h → Bumped to counts after → EndsAdded vert h before after
+  ends_added after q second = record { each = λ u l. rw (← q) (omega (arith, first u l, second u (omega arith))) }
 
 module _ (d : ℕ) (c : Tables) (creases : List ℕ) where
   module _ (h : ℕ) (before : List ℕ) where
@@ -45,8 +45,8 @@ module _ (d : ℕ) (c : Tables) (creases : List ℕ) where
     border-added t a = record { each = λ u l. rw (eq-eqb _ marker t, or_true) (a.each u l) }
 
     module _ (t : cell c.twin h ≢ marker) where
-      pub sharp_added : {counts : List ℕ} {from : ℕ} → from ≡ cell c.vert h → ltb d (cell creases (cell c.edge h)) ≡ true → Bumped from before counts → CreasesAdded h d c creases before counts
-      sharp_added p s a = record { each = λ u l. rw (ne_eqb _ marker t, s) (a u l ∙ rw p (omega arith)) }
+      pub sharp_added : {counts : List ℕ} → ltb d (cell creases (cell c.edge h)) ≡ true → Bumped (cell c.vert h) before counts → CreasesAdded h d c creases before counts
+      sharp_added s a = record { each = λ u l. rw (ne_eqb _ marker t, s) (a u l ∙ omega arith) }
 
       pub none_added : ltb d (cell creases (cell c.edge h)) ≡ false → CreasesAdded h d c creases before before
       none_added s = record { each = λ u l. rw (ne_eqb _ marker t, s) (omega arith) }

@@ -127,19 +127,19 @@ module _ {vert edge : List ℕ} {n : ℕ} {l : List ℤ} (seamed : Seamed vert e
   pub corner_read : (i : ℕ) → i < length vert → (3 * cell vert i + 2 < length l) × Near (point_of l (cell vert i))
   corner_read = let room = seamed.room h b in corner_near l seamed.cornered (omega arith) seamed.in_range
 
-  module _ {x y : Corner} {e : ℕ} (from : x ≡ corner_of vert l h) (end : y ≡ corner_of vert l (NEXT h)) (number : e ≡ cell edge h) where
-    pub asks_seam : AsksSeam n e x y l
+  module _ {x y : Corner} (from : x ≡ corner_of vert l h) (end : y ≡ corner_of vert l (NEXT h)) where
+    pub asks_seam : AsksSeam n (cell edge h) x y l
     asks_seam =
         record {
           in_from = subst (λ x. x.vertex < n) (sym from) (seamed.cornered.below h b);
-          room = rw number (seamed.room h b);
+          room = seamed.room h b;
           near = subst (λ x. Near x.point) (sym from) (corner_read h b).1;
           neighbour_near = subst (λ x. Near x.point) (sym end) (corner_read (NEXT h) (next_below seamed.cornered.whole b)).1;
         }
 
-    pub drawn_at : (counts : List ℕ) {creases : ℕ} {m : List ℤ} → creases ≡ known_creases counts x.vertex → m ≡ draw_seam n e creases x y l → m ≡ draw_at counts vert edge n l h l
+    pub drawn_at : (counts : List ℕ) {creases : ℕ} {m : List ℤ} → creases ≡ known_creases counts x.vertex → m ≡ draw_seam n (cell edge h) creases x y l → m ≡ draw_at counts vert edge n l h l
     unfolding draw_at
-    drawn_at counts k d = d ∙ (λ i. draw_seam n (number i) ((k ∙ ap (λ x. known_creases counts x.vertex) from) i) (from i) (end i) l)
+    drawn_at counts k d = d ∙ (λ i. draw_seam n (cell edge h) ((k ∙ ap (λ x. known_creases counts x.vertex) from) i) (from i) (end i) l)
 
 -- the loop over the halfedges
 module _ (creases : List ℕ) (level : ℕ) (counts vert edge : List ℕ) (n : ℕ) (l : List ℤ) (seamed : Seamed vert edge n l) where

@@ -14,7 +14,6 @@ use edgepoints::edges::{Corner, meet_one, put_middle, read_corner};
 use halfedges::table::HalfedgeTable;
 use points::cells::put_point;
 use tables::Tables;
-use tables::cells::wide;
 
 // The cage's creases at a level: the number of each of its edges, the level's number, and how many creases each of its vertices has
 // there.
@@ -29,7 +28,7 @@ pub struct Creases<'a> {
 fn known_creases(counts: &[u32], vertex: u32) -> u32
     ensures { result ≡ known_creases counts.now vertex }
 {
-    counts.get(wide(vertex)).copied().unwrap_or(2)
+    counts.get(vertex as usize).copied().unwrap_or(2)
 }
 
 // A vertex stays put.
@@ -83,7 +82,14 @@ fn draw_at(counts: &[u32], level: &Tables, points: &mut [i32], vertices: usize, 
     let a = read_corner(level.vert, points, halfedge);
     let b = read_corner(level.vert, points, HalfedgeTable::next(halfedge));
     let creases = known_creases(counts, a.vertex);
-    draw_seam(points, vertices, wide(level.edge[halfedge]), creases, a, b);
+    draw_seam(
+        points,
+        vertices,
+        level.edge[halfedge] as usize,
+        creases,
+        a,
+        b,
+    );
 }
 
 // A halfedge whose edge comes of an edge of the cage.
@@ -101,7 +107,7 @@ fn draw_part(
         ≡ seam creases.now.numbers.now creases.now.level creases.now.counts.now c.vert c.edge vertices
         points.old halfedge points.old }
 {
-    let part = wide(level.edge[halfedge]) >> creases.level;
+    let part = (level.edge[halfedge] as usize) >> creases.level;
     if stays_sharp(creases.numbers, creases.level, part) {
         draw_at(creases.counts, level, points, vertices, halfedge);
     }
@@ -123,7 +129,7 @@ fn draw_any(
         ≡ seam creases.now.numbers.now creases.now.level creases.now.counts.now c.vert c.edge vertices
         points.old halfedge points.old }
 {
-    if wide(level.edge[halfedge]) < outline {
+    if (level.edge[halfedge] as usize) < outline {
         draw_part(creases, level, points, vertices, halfedge);
     }
 }

@@ -7,7 +7,6 @@ ghost use Rattle.seams.specs.Internal.Tally.{ForTally, FewCounted, EndsAdded, Cr
 use crate::sharp::stays_sharp;
 use halfedges::table::HalfedgeTable;
 use tables::Tables;
-use tables::cells::wide;
 use tables::rules::count_one;
 
 // A border edge is a crease of both its ends.
@@ -16,8 +15,8 @@ fn count_ends(vert: &[u32], counts: &mut [u32], halfedge: usize)
         × (FewCounted counts.old) }
     ensures { EndsAdded vert.now halfedge counts.old counts.new }
 {
-    let from = wide(vert[halfedge]);
-    let to = wide(vert[HalfedgeTable::next(halfedge)]);
+    let from = vert[halfedge] as usize;
+    let to = vert[HalfedgeTable::next(halfedge)] as usize;
     count_one(counts, from);
     count_one(counts, to);
 }
@@ -32,8 +31,8 @@ fn count_halfedge(cage: &Tables, creases: &[u8], level: usize, counts: &mut [u32
         count_ends(cage.vert, counts, halfedge);
         return;
     }
-    if stays_sharp(creases, level, wide(cage.edge[halfedge])) {
-        count_one(counts, wide(cage.vert[halfedge]));
+    if stays_sharp(creases, level, cage.edge[halfedge] as usize) {
+        count_one(counts, cage.vert[halfedge] as usize);
     }
 }
 

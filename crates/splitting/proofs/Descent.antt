@@ -44,11 +44,11 @@ module _ (t : HalfedgeTable) (at : ℕ) (twin c : List ℕ) (four : t.halfedges 
       }
 
 -- NEXT of a twin that is the last or the first of its triangle
-pub last_next : {t x : ℕ} → Leaving 2 t → x ≡ t → KnownNext t (x - 2)
-last_next {t} l e m = ((l m).0, ap (λ y. y - 2) e ∙ sym (next_last t (l m).1))
+pub last_next : {t : ℕ} → Leaving 2 t → KnownNext t (t - 2)
+last_next {t} l m = ((l m).0, sym (next_last t (l m).1))
 
-pub first_next : {t x : ℕ} → Leaving 0 t → x ≡ t → KnownNext t (x + 1)
-first_next {t} l e m = ((l m).0, ap (λ y. y + 1) e ∙ sym (next_other t (λ z. omega (arith, z, (l m).1))))
+pub first_next : {t : ℕ} → Leaving 0 t → KnownNext t (t + 1)
+first_next {t} l m = ((l m).0, sym (next_other t (λ z. omega (arith, z, (l m).1))))
 
 -- the way round a triangle that starts at a
 pub way_round : (a : ℕ) → a % 3 ≡ 0 → (a + 1 ≡ NEXT a) × (a + 2 ≡ NEXT (a + 1)) × (a ≡ NEXT (a + 2))

@@ -5,7 +5,6 @@ ghost use Rattle.splitting.specs.Internal.InPlace.{cells_at, with_split, SmallTw
 use crate::halves::{known_halves, twin_halves};
 use crate::split::{Above, above_at, join_twins, put, put_edges, three};
 use halfedges::table::HalfedgeTable;
-use tables::cells::wide;
 
 // A twin that is known, and NEXT of it.
 #[derive(Clone, Copy)]
@@ -21,9 +20,9 @@ pub fn put_corner(twin: &mut [u32], at: usize, halfedges: usize, corner: usize, 
     let first = 3 * corner;
     let twins = three(twin, at, first);
     let split = join_twins(
-        twin_halves(twins.0, wide(twins.0) - 2),
+        twin_halves(twins.0, twins.0 as usize - 2),
         known_halves(across.0, across.1),
-        twin_halves(twins.2, wide(twins.2) + 1),
+        twin_halves(twins.2, twins.2 as usize + 1),
         halfedges,
         first,
     );

@@ -4,7 +4,6 @@ ghost use Rattle.halfedges.specs.Cage.{NEXT};
 ghost use Rattle.splitting.specs.Internal.InPlace.{most_small, twin_halves, edge_halves, KnownNext, SmallTwin, SmallEdge};
 
 use halfedges::table::HalfedgeTable;
-use tables::cells::wide;
 
 // What a table has for a triangle's three halfedges.
 #[derive(Clone, Copy)]
@@ -30,7 +29,7 @@ pub fn twin_halves(old: u32, next: usize) -> Halves
     if old == HalfedgeTable::NO_TWIN {
         return Halves(HalfedgeTable::NO_TWIN, HalfedgeTable::NO_TWIN);
     }
-    known_halves(wide(old), next)
+    known_halves(old as usize, next)
 }
 
 // The twins of a halfedge's two halves, where its twin may be missing and any of its triangle's three.
@@ -38,7 +37,7 @@ pub fn any_halves(old: u32) -> Halves
     requires { SmallTwin old }
     ensures { result ≡ twin_halves old }
 {
-    twin_halves(old, HalfedgeTable::next(wide(old)))
+    twin_halves(old, HalfedgeTable::next(old as usize))
 }
 
 // The edges of a halfedge's two halves: an edge's halves are numbered along the higher of its halfedges.
@@ -57,7 +56,7 @@ pub fn on_edge(edge: u32, vertices: usize) -> u32
     requires { (SmallEdge edge) × (vertices ≤ most_small) }
     ensures { result ≡ vertices + edge }
 {
-    (vertices + wide(edge)) as u32
+    (vertices + edge as usize) as u32
 }
 
 // Three numbers, each a step after the one before it.

@@ -5,8 +5,6 @@ ghost use Rattle.halfedges.specs.Cage.{most_halfedges, cell};
 ghost use Rattle.tables.specs.Ruled.{Paired};
 ghost use Rattle.triangles.specs.Plain.{is_lowest, edge_table};
 
-use tables::cells::wide;
-
 // EDGE in front of a lent table.
 pub fn write_edges(twin: &[u32], edge: &mut [u32])
     requires { Paired twin.now × (length twin.now ≤ most_halfedges) × (length twin.now ≤ length edge.old) }
@@ -27,7 +25,7 @@ fn put_edge(twin: &[u32], edge: &mut [u32], halfedge: usize, edges: u32) -> u32
     ensures edge_after { edge.new ≡ set edge.old halfedge
         (cond (is_lowest twin.now halfedge) edges (cell edge.old (cell twin.now halfedge))) }
 {
-    let other = wide(twin[halfedge]);
+    let other = twin[halfedge] as usize;
     if halfedge < other {
         edge[halfedge] = edges;
         return edges + 1;

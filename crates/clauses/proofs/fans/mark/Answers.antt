@@ -39,7 +39,7 @@ shape_of-marks-then-at-corner c = simp length-set c.loop-turn.invariant.long
 pub returns-then-at-corner : goal.returns-then-at-corner
 returns-then-at-corner c =
     let q = c.step-other.ensures in
-    going_round c.requires.2 (left (goal.at.returns-then-at-corner c).In-loop-turn) (λ m. c.if-other.false (q ∙ m)) (sym q ∙ sym c.wide-at.ensures ∙ c.if-at-corner.true)
+    going_round c.requires.2 (left (goal.at.returns-then-at-corner c).In-loop-turn) (λ m. c.if-other.false (q ∙ m)) (sym q ∙ c.if-at-corner.true)
 
 pub returns-else-at-corner : goal.returns-else-at-corner
 returns-else-at-corner c =
@@ -52,7 +52,7 @@ loop-turn-preserved c =
     let i = c.loop-turn in
     let e : length c.args.twin.now + 1 - (i._turn + 1) ≡ length c.args.twin.now - i._turn = omega arith in
     let q = c.step-other.ensures in
-    rw (e, c.wide-at.ensures, q, add-one i._turn) (going_on c.requires.2 (left (goal.at.loop-turn-preserved c).In-loop-turn) c.requires.0 (λ m. c.if-other.false (q ∙ m)))
+    rw (e, q, add-one i._turn) (going_on c.requires.2 (left (goal.at.loop-turn-preserved c).In-loop-turn) c.requires.0 (λ m. c.if-other.false (q ∙ m)))
 
 pub shape_of-marks : goal.shape_of-marks
 shape_of-marks c = c.loop-turn.invariant.long

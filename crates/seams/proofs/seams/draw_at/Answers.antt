@@ -31,8 +31,8 @@ read_corner-b-requires c =
 
 pub draw_seam-requires : goal.draw_seam-requires
 draw_seam-requires c =
-    asks_seam (s (goal.at.draw_seam-requires c).After-read_corner-b).requires.0 (s (goal.at.draw_seam-requires c).After-read_corner-b).args.halfedge (s (goal.at.draw_seam-requires c).After-read_corner-b).requires.1 (from_is (goal.at.draw_seam-requires c).After-read_corner-b) (end_is (goal.at.draw_seam-requires c).After-read_corner-b) c.wide.ensures
+    asks_seam (s (goal.at.draw_seam-requires c).After-read_corner-b).requires.0 (s (goal.at.draw_seam-requires c).After-read_corner-b).args.halfedge (s (goal.at.draw_seam-requires c).After-read_corner-b).requires.1 (from_is (goal.at.draw_seam-requires c).After-read_corner-b) (end_is (goal.at.draw_seam-requires c).After-read_corner-b)
 
 pub returns : goal.returns
 returns c =
-    drawn_at (s (goal.at.returns c).After-read_corner-b).requires.0 (s (goal.at.returns c).After-read_corner-b).args.halfedge (s (goal.at.returns c).After-read_corner-b).requires.1 (from_is (goal.at.returns c).After-read_corner-b) (end_is (goal.at.returns c).After-read_corner-b) c.wide.ensures (s (goal.at.returns c).After-read_corner-b).args.counts.now c.known_creases-creases.ensures c.draw_seam.ensures
+    drawn_at (s (goal.at.returns c).After-read_corner-b).requires.0 (s (goal.at.returns c).After-read_corner-b).args.halfedge (s (goal.at.returns c).After-read_corner-b).requires.1 (from_is (goal.at.returns c).After-read_corner-b) (end_is (goal.at.returns c).After-read_corner-b) (s (goal.at.returns c).After-read_corner-b).args.counts.now c.known_creases-creases.ensures c.draw_seam.ensures

@@ -1,7 +1,5 @@
 -- `draw_part` asks the cage's edge whether it stays sharp.
-use Prim.Native.Nat.{◌/◌, ◌^◌}
-use mathlib.Core.Path.{◌≡◌, sym, ap, ◌∙◌}
-use lib.Dec.{ltb}
+use mathlib.Core.Path.{◌≡◌, sym, ◌∙◌}
 use Rattle.halfedges.specs.Cage.{cell}
 use Rattle.seams.specs.Internal.Seams.{sharp_at}
 use Rattle.seams.proofs.Numbers.{part_below}
@@ -15,11 +13,11 @@ module _ (a : After-stays_sharp) where
 
   sharp_is : sharp_at s.args.creases.now.numbers.now s.args.creases.now.level (cell s.args.level.now.edge.now s.args.halfedge) ≡ a.stays_sharp.result
   unfolding sharp_at
-  sharp_is = sym (a.stays_sharp.ensures ∙ ap (λ e. ltb s.args.creases.now.level (cell s.args.creases.now.numbers.now (e / 2 ^ s.args.creases.now.level))) a.wide.ensures)
+  sharp_is = sym a.stays_sharp.ensures
 
 pub stays_sharp-requires : goal.stays_sharp-requires
 stays_sharp-requires c =
-    part_below c.args.creases.now.numbers.now c.args.creases.now.level c.wide.result (rw c.wide.ensures c.requires.3)
+    part_below c.args.creases.now.numbers.now c.args.creases.now.level _ c.requires.3
 
 pub returns-then-stays_sharp : goal.returns-then-stays_sharp
 returns-then-stays_sharp c =

@@ -1,7 +1,7 @@
 -- `count_ends` counts one more at each end, where the tally has room for both.
 use borrow.Author.Rules.{rules}
 use Prim.Native.Nat.{◌<◌}
-use mathlib.Core.Path.{ap, ◌∙◌}
+use mathlib.Core.Path.{ap}
 use native.Mathlib.Omega.{arith}
 use lib.ListN.{length}
 use Rattle.halfedges.specs.Cage.{cell}
@@ -28,9 +28,10 @@ count_one-requires c = λ l. omega (arith, (s (goal.at.count_one-requires c).Aft
 
 pub count_one-requires-2 : goal.count_one-requires-2
 count_one-requires-2 c =
-    bumped_few (s (goal.at.count_one-requires-2 c).After-next).args.counts.now c.count_one.new.tally (search rules) c.wide-from.result c.count_one.ensures (s (goal.at.count_one-requires-2 c).After-next).requires.3 _
+    let b = s (goal.at.count_one-requires-2 c).After-next in
+    bumped_few b.args.counts.now c.count_one.new.tally (search rules) b.args.vert.now b.args.halfedge c.count_one.ensures b.requires.3 _
 
 pub returns : goal.returns
 returns c =
     let a = (s (goal.at.returns c).After-next).args in
-    ends_added a.counts.now c.count_one.new.tally (search rules) c.wide-from.result c.count_one.ensures a.vert.now a.halfedge c.count_one-2.new.tally c.wide-from.ensures (c.wide-to.ensures ∙ ap (cell a.vert.now) c.next.ensures) c.count_one-2.ensures
+    ends_added a.counts.now c.count_one.new.tally (search rules) a.vert.now a.halfedge c.count_one.ensures c.count_one-2.new.tally (ap (cell a.vert.now) c.next.ensures) c.count_one-2.ensures

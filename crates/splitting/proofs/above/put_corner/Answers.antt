@@ -16,10 +16,10 @@ module _ (r : After-three-twins) where
   first = rw r.three-twins.ensures start.requires.corner_triangle.third
 
 pub twin_halves-requires : goal.twin_halves-requires
-twin_halves-requires c = last_next (last (goal.at.twin_halves-requires c).After-three-twins) c.wide.ensures
+twin_halves-requires c = last_next (last (goal.at.twin_halves-requires c).After-three-twins)
 
 pub twin_halves-requires-2 : goal.twin_halves-requires-2
-twin_halves-requires-2 c = first_next (first (goal.at.twin_halves-requires-2 c).After-three-twins) c.wide-2.ensures
+twin_halves-requires-2 c = first_next (first (goal.at.twin_halves-requires-2 c).After-three-twins)
 
 pub returns : goal.returns
 unfolding split_twins
