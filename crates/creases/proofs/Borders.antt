@@ -31,8 +31,8 @@ module _ (twin edge : List ℕ) where
     pub twin_kept : border twin h ≡ false → MarkedAt twin edge h l l
     twin_kept e = record { each = λ x _. rw e (sym (or_false_right (get_or l x false))) }
 
-    pub edge_marked : {number : ℕ} → number ≡ cell edge h → border twin h ≡ true → number < length l → MarkedAt twin edge h l (set l number true)
-    edge_marked {number} p e k = record { each = λ x _. rw (e, ← p) (one l number k x) }
+    pub edge_marked : border twin h ≡ true → cell edge h < length l → MarkedAt twin edge h l (set l (cell edge h) true)
+    edge_marked e k = record { each = λ x _. rw e (one l (cell edge h) k x) }
 
   pub marked_none : (n : ℕ) → MarkedTo twin edge 0 (replicate n false)
   marked_none n = record { each = λ x k. get_or-replicate n x false false (rw (length-replicate n false) at k) }

@@ -9,7 +9,6 @@ ghost use Rattle.creases.specs.Internal.Borders.{ForCreases, Markable, MarkedAt,
 
 use halfedges::refusal::Refusal;
 use halfedges::table::HalfedgeTable;
-use tables::cells::wide;
 use tables::{Tables, fans, rules};
 
 // The most levels for which an edge stays sharp.
@@ -62,7 +61,7 @@ fn mark_edge(twin: &[u32], edge: &[u32], borders: &mut [bool], halfedge: usize)
     if twin[halfedge] != HalfedgeTable::NO_TWIN {
         return;
     }
-    let number = wide(edge[halfedge]);
+    let number = edge[halfedge] as usize;
     borders[number] = true;
 }
 
@@ -86,14 +85,9 @@ fn first_bad_crease(
 }
 
 // An edge's number is out of range, or not 0 on a border.
+#[tactic(auto, using(std::proofs::lemmas::Bool::Decides::nat_tests))]
 fn bad_crease(crease: u8, on_border: bool) -> bool
     ensures { result ≡ (ltb most_crease crease || on_border && not (eqb crease 0)) }
 {
-    if MOST_CREASE < crease {
-        return true;
-    }
-    if on_border {
-        return crease != 0;
-    }
-    false
+    crease > MOST_CREASE || on_border && crease != 0
 }

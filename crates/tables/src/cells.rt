@@ -1,22 +1,13 @@
-// Cells of the tables as numbers.
+// Cells of the table of twins.
 ghost use Rattle.std.specs.Prelude.{◌≡◌, ◌<◌};
 ghost use Rattle.tables.specs.Internal.Above.{is_above};
 
 use halfedges::table::HalfedgeTable;
 
-// A number of a table as an index.
-pub fn wide(number: u32) -> usize
-    ensures { result ≡ number }
-{
-    number as usize
-}
-
 // h > t, where a missing twin t counts as lower than every halfedge.
+#[tactic(auto, using(std::proofs::lemmas::Bool::Decides::nat_tests))]
 pub fn is_above(twin: u32, halfedge: usize) -> bool
     ensures { result ≡ is_above twin halfedge }
 {
-    if twin == HalfedgeTable::NO_TWIN {
-        return true;
-    }
-    wide(twin) < halfedge
+    twin == HalfedgeTable::NO_TWIN || halfedge > twin as usize
 }

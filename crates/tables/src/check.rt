@@ -69,19 +69,14 @@ impl Tables<'_> {
         rules::check_twins(self.twin)
     }
 
+    #[tactic(auto, using(std::proofs::lemmas::Bool::Decides::nat_tests), unfolding(crate::specs::Rules::misshapen))]
     fn misshapen(&self) -> bool
         ensures { result ≡ rules_misshapen (held self.now) }
     {
-        if self.twin.len() == 0 {
-            return true;
-        }
-        if self.twin.len() % 3 != 0 {
-            return true;
-        }
-        if self.vert.len() != self.twin.len() {
-            return true;
-        }
-        self.edge.len() != self.twin.len()
+        self.twin.len() == 0
+            || self.twin.len() % 3 != 0
+            || self.vert.len() != self.twin.len()
+            || self.edge.len() != self.twin.len()
     }
 
     // Rules 4 to 6 of tables that keep 1 to 3.

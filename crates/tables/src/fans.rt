@@ -7,7 +7,6 @@ ghost use Rattle.tables.specs.Fans.{link, not_one_fan};
 ghost use Rattle.tables.specs.Internal.Walks.{Walkable, fan_size, Kept};
 ghost use Rattle.tables.specs.Internal.Relied.{ForFans, Marked};
 
-use crate::cells::wide;
 use crate::rules::count_numbers;
 use halfedges::refusal::Refusal;
 use halfedges::table::HalfedgeTable;
@@ -30,7 +29,7 @@ fn keep_corners(vert: &[u32], kept: &mut [u32])
     ensures { Kept vert.now (length vert.now) kept.new }
 {
     for halfedge in 0..vert.len() {
-        let vertex = wide(vert[halfedge]);
+        let vertex = vert[halfedge] as usize;
         kept[vertex] = halfedge as u32;
     }
 }
@@ -47,9 +46,9 @@ fn first_not_one_fan(
     ensures { told result ≡ given_at vertices (not_one_fan twin.now vert.now) FAN }
 {
     for vertex in 0..vertices {
-        let corner = wide(kept[vertex]);
+        let corner = kept[vertex] as usize;
         let size = fan_size(twin, corner);
-        if size != wide(corners[vertex]) {
+        if size != corners[vertex] as usize {
             return Err(Refusal::Fan(vertex));
         }
     }
@@ -66,7 +65,7 @@ fn fan_size(twin: &[u32], halfedge: usize) -> usize
     let mut size = 1;
     let mut other = twin[corner];
     while other != HalfedgeTable::NO_TWIN {
-        corner = HalfedgeTable::next(wide(other));
+        corner = HalfedgeTable::next(other as usize);
         if corner == halfedge {
             return size;
         }
@@ -84,7 +83,7 @@ fn open_fan_size(twin: &[u32], first: usize) -> usize
     let mut size = 1;
     let mut other = linked_with(twin, first);
     while other != HalfedgeTable::NO_TWIN {
-        other = linked_with(twin, wide(other));
+        other = linked_with(twin, other as usize);
         size += 1;
     }
     size

@@ -6,7 +6,7 @@ ghost use Rattle.tables.specs.Rules.{bad_twin, bad_vertex, unused, bad_edge};
 ghost use Rattle.tables.specs.Internal.Tally.{Tallied};
 ghost use Rattle.tables.specs.Internal.Relied.{ForVertices, ForEdges, TalliedTo};
 
-use crate::cells::{is_above, wide};
+use crate::cells::is_above;
 use halfedges::refusal::Refusal;
 use halfedges::table::HalfedgeTable;
 
@@ -22,22 +22,15 @@ pub fn check_twins(twin: &[u32]) -> Result<(), Refusal>
     Ok(())
 }
 
+#[tactic(auto, using(std::proofs::lemmas::Bool::Decides::nat_tests), unfolding(crate::specs::Rules::bad_twin))]
 fn bad_twin(twin: &[u32], halfedge: usize) -> bool
     requires { halfedge < length twin.now }
     ensures { result ≡ bad_twin twin.now halfedge }
 {
     let t = twin[halfedge];
-    if t == HalfedgeTable::NO_TWIN {
-        return false;
-    }
-    let other = wide(t);
-    if twin.len() <= other {
-        return true;
-    }
-    if other == halfedge {
-        return true;
-    }
-    wide(twin[other]) != halfedge
+    let other = t as usize;
+    t != HalfedgeTable::NO_TWIN
+        && (twin.len() <= other || other == halfedge || twin[other] as usize != halfedge)
 }
 
 // Rule 4, where rule 3 is kept.
@@ -53,25 +46,15 @@ pub fn check_vertices(twin: &[u32], vert: &[u32], vertices: usize) -> Result<(),
     Ok(())
 }
 
+#[tactic(auto, using(std::proofs::lemmas::Bool::Decides::nat_tests, halfedges::proofs::Triangle::next_below), unfolding(crate::specs::Rules::bad_vertex))]
 fn bad_vertex(twin: &[u32], vert: &[u32], vertices: usize, halfedge: usize) -> bool
     requires { ForVertices twin.now vert.now × (halfedge < length twin.now) }
     ensures { result ≡ bad_vertex twin.now vert.now vertices halfedge }
 {
-    let next = HalfedgeTable::next(halfedge);
     let from = vert[halfedge];
-    if vertices <= wide(from) {
-        return true;
-    }
-    let to = vert[next];
-    if from == to {
-        return true;
-    }
+    let to = vert[HalfedgeTable::next(halfedge)];
     let t = twin[halfedge];
-    if t == HalfedgeTable::NO_TWIN {
-        return false;
-    }
-    let other = wide(t);
-    vert[other] != to
+    vertices <= from as usize || from == to || t != HalfedgeTable::NO_TWIN && vert[t as usize] != to
 }
 
 // How often a table holds each number that tally has a cell for, which starts with zeros.
@@ -80,7 +63,7 @@ pub fn count_numbers(table: &[u32], tally: &mut [u32])
     ensures { Tallied table.now (length table.now) tally.new }
 {
     for number in table {
-        count_one(tally, wide(*number));
+        count_one(tally, *number as usize);
     }
 }
 
@@ -170,22 +153,16 @@ fn first_bad_edge(carriers: &[u32], twin: &[u32], edge: &[u32], edges: usize) ->
     Ok(())
 }
 
+#[tactic(auto, using(std::proofs::lemmas::Bool::Decides::nat_tests, crate::proofs::Carriers::alone_count, crate::proofs::Carriers::paired_count), unfolding(crate::specs::Rules::bad_edge))]
 fn bad_edge(carriers: &[u32], twin: &[u32], edge: &[u32], edges: usize, halfedge: usize) -> bool
     requires { ForEdges twin.now edge.now × TalliedTo edges edge.now carriers.now × (halfedge < length twin.now) }
     ensures { result ≡ bad_edge twin.now edge.now edges halfedge }
 {
     let own = edge[halfedge];
-    let number = wide(own);
-    if edges <= number {
-        return true;
-    }
     let t = twin[halfedge];
-    if t == HalfedgeTable::NO_TWIN {
-        return carriers[number] != 1;
-    }
-    let other = wide(t);
-    if edge[other] != own {
-        return true;
-    }
-    carriers[number] != 2
+    // what carries its edge: it alone, or it and its twin
+    let carried = if t == HalfedgeTable::NO_TWIN { 1 } else { 2 };
+    edges <= own as usize
+        || t != HalfedgeTable::NO_TWIN && edge[t as usize] != own
+        || carriers[own as usize] != carried
 }

@@ -43,8 +43,8 @@ module _ (twin vert : List ℕ) where
     pub twin_kept : border twin h ≡ false → ClearedAt twin vert h l l
     twin_kept e = record { each = λ x _. rw e }
 
-    pub ends_cleared : {from to : ℕ} → from ≡ cell vert h → to ≡ far vert h → border twin h ≡ true → from < length l → to < length l → ClearedAt twin vert h l (set (set l from 0) to 0)
-    ends_cleared {from} {to} p q e lf lt = record { each = λ x _. rw (e, ← p, ← q) (both l from to lf lt x) }
+    pub ends_cleared : {to : ℕ} → to ≡ far vert h → border twin h ≡ true → cell vert h < length l → to < length l → ClearedAt twin vert h l (set (set l (cell vert h) 0) to 0)
+    ends_cleared {to} q e lf lt = record { each = λ x _. rw (e, ← q) (both l (cell vert h) to lf lt x) }
 
   pub cleared_none : (l : List ℕ) → Cleared twin vert 0 l l
   cleared_none l = record { each = λ x _. refl }

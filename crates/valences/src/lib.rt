@@ -9,7 +9,6 @@ ghost use Rattle.valences.specs.Internal.Inside.{ForValences, ClearedAt, Cleared
 use halfedges::refusal::Refusal;
 use halfedges::table::HalfedgeTable;
 use points::weights::{MOST_VALENCE, Weight};
-use tables::cells::wide;
 use tables::rules::count_numbers;
 
 // Rule 14 by the weight chosen, where rules 1 to 4 are kept.
@@ -58,8 +57,8 @@ fn clear_ends(twin: &[u32], vert: &[u32], corners: &mut [u32], halfedge: usize)
     if twin[halfedge] != HalfedgeTable::NO_TWIN {
         return;
     }
-    let from = wide(vert[halfedge]);
-    let to = wide(vert[HalfedgeTable::next(halfedge)]);
+    let from = vert[halfedge] as usize;
+    let to = vert[HalfedgeTable::next(halfedge)] as usize;
     corners[from] = 0;
     corners[to] = 0;
 }

@@ -15,7 +15,7 @@ pub loop-other-init : goal.loop-other-init
 loop-other-init c = (c.args.first, start _ c.requires.0 along _ c.requires.1, c.linked_with-other.ensures)
 
 pub linked_with-other-requires-in-loop-other : goal.linked_with-other-requires-in-loop-other
-linked_with-other-requires-in-loop-other c = (c.requires.0, rw c.wide.ensures (last_below _ c.requires.0 (ahead (goal.at.linked_with-other-requires-in-loop-other c).In-loop-other)))
+linked_with-other-requires-in-loop-other c = (c.requires.0, last_below _ c.requires.0 (ahead c))
 
 pub overflow_add-size : goal.overflow_add-size
 overflow_add-size c = omega (arith, c.requires.0.few, few_met _ c.requires.0 (ahead (goal.at.overflow_add-size c).In-loop-other))
@@ -24,7 +24,7 @@ pub loop-other-smaller : goal.loop-other-smaller
 loop-other-smaller c = omega (arith, few_met _ c.requires.0 (ahead (goal.at.loop-other-smaller c).In-loop-other))
 
 pub loop-other-preserved : goal.loop-other-preserved
-loop-other-preserved c = (c.wide.result, rw c.wide.ensures (ahead (goal.at.loop-other-preserved c).In-loop-other), c.linked_with-other-in-loop-other.ensures)
+loop-other-preserved c = (c.loop-other.other, ahead (goal.at.loop-other-preserved c).In-loop-other, c.linked_with-other-in-loop-other.ensures)
 
 pub returns : goal.returns
 returns c = let i = c.loop-other.invariant in along_end _ c.requires.0 c.requires.2 i.1 i.2 c.loop-other-test.false
