@@ -1,17 +1,14 @@
 -- Checks 1 to 8 where the points are no multiple of 3, `cage_shape`, and else in their parts, `cage_parts`; with 15 and 14 `refine_shape` and
 -- `refine_parts`; both by `checks_then_lem`. 8 alone, `points_last`. With the short weight there is no 14, `short_checks`. Where the checks are done 1 to 7 are, `tables-accepted`. What rule 14 relies on:
--- `for_valences`. A coordinate out of range, by its sign: `too_low`, `too_high`. Assumes nothing.
-use Prim.Native.Nat.{ℕ, suc, ◌-◌, ◌%◌}
+-- `for_valences`. Assumes nothing.
+use Prim.Native.Nat.{ℕ, ◌%◌}
 use mathlib.Core.Path.{◌≡◌, refl, sym}
 use mathlib.Core.Logic.{◌≢◌}
-use mathlib.Core.Bool.{true, false, true≢false}
 use mathlib.Core.List.{List, [], ◌∷◌, ◌++◌}
 use native.Mathlib.Omega.{arith}
-use lib.Dec.{ltb}
-use lib.IntN.{ℤ, pos, negsuc, nat_abs}
-use lib.Signed.{lt_z}
+use lib.IntN.{ℤ}
 use lib.ListN.{length}
-use borrow.Author.Tests.{eq-eqb, ne_eqb, lt-ltb, le-ltb, ltb-true, ltb-false}
+use borrow.Author.Tests.{eq-eqb, ne_eqb}
 use Rattle.laws.proofs.Tests.{or_true, or_false_right}
 use Rattle.halfedges.specs.Refusals.{Verdict, DONE, SHAPE, POINT, given, given_at, first}
 use Rattle.halfedges.proofs.Checks.{done_both, given_alone}
@@ -23,7 +20,7 @@ use Rattle.tables.proofs.Accepted.{whole_meaning}
 use Rattle.creases.specs.Check.{creased_rules, creased_table_checks}
 use Rattle.points.specs.declared.weights.Weight.{Weight}
 use Rattle.points.specs.declared.weights.Weight.TheVariants.{Short}
-use Rattle.points.specs.Operations.{vertices, most_coordinate, out_of_range, valence_checks, checks_with, cage_checks, creased_checks, refine_checks}
+use Rattle.points.specs.Operations.{vertices, out_of_range, valence_checks, checks_with, cage_checks, creased_checks, refine_checks}
 use Rattle.valences.specs.Internal.Inside.{ForValences}
 
 -- no 14 with the short weight
@@ -86,11 +83,3 @@ module _ (w : Weight) (c : Tables) (creases : List ℕ) (points : List ℤ) (dep
 pub tables-accepted : (c : Tables) (points : List ℤ) (depth : ℕ) → length points % 3 ≡ 0 → first (cage_checks c points depth) ≡ DONE → first (table_checks c (vertices points) depth) ≡ DONE
 unfolding cage_checks table_checks
 tables-accepted c points depth whole e = (done_both _ _ (rw (checks_then_lem (rules c (vertices points)) [] c points depth whole) at e)).0
-
-pub too_low : (z : ℤ) → lt_z z (negsuc (most_coordinate - 1)) ≡ true → true ≡ ltb most_coordinate (nat_abs z)
-too_low (pos n) e = absurd (true≢false (sym e))
-too_low (negsuc n) e = sym (lt-ltb most_coordinate (suc n) (omega (arith, ltb-true (most_coordinate - 1) n e)))
-
-pub too_high : (z : ℤ) → lt_z z (negsuc (most_coordinate - 1)) ≡ false → lt_z (pos most_coordinate) z ≡ ltb most_coordinate (nat_abs z)
-too_high (pos n) e = refl
-too_high (negsuc n) e = sym (le-ltb most_coordinate (suc n) (omega (arith, ltb-false (most_coordinate - 1) n e)))

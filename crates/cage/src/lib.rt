@@ -67,16 +67,11 @@ pub fn check_plain(tables: &Tables, points: &[i32]) -> Result<(), Refusal>
 }
 
 // 1, where VERT and points are all there is: there is no triangle, or a table ends within a triangle or within a point.
+#[tactic(auto, using(std::proofs::lemmas::Bool::Decides::nat_tests), unfolding(points::specs::Operations::unshaped))]
 pub fn unshaped(vert: &[u32], points: &[i32]) -> bool
     ensures { result ≡ operations_unshaped vert.now points.now }
 {
-    if vert.len() == 0 {
-        return true;
-    }
-    if vert.len() % 3 != 0 {
-        return true;
-    }
-    points.len() % 3 != 0
+    vert.len() == 0 || vert.len() % 3 != 0 || points.len() % 3 != 0
 }
 
 // Rule 8: every coordinate is in range. Most tables are passed without looking for a place.
@@ -116,8 +111,5 @@ fn find_out_of_range(points: &[i32]) -> Result<(), Refusal>
 fn out_of_range(coordinate: i32) -> bool
     ensures { result ≡ ltb most_coordinate (nat_abs coordinate) }
 {
-    if coordinate < LEAST_COORDINATE {
-        return true;
-    }
-    MOST_COORDINATE < coordinate
+    coordinate < LEAST_COORDINATE || MOST_COORDINATE < coordinate
 }

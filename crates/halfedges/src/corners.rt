@@ -24,14 +24,9 @@ pub fn corner_question(vert: &[u32], triangle: usize) -> Result<[u32; 3], Refusa
 }
 
 // The table has no such triangle: refusal 1 of the corner question.
+#[tactic(auto, using(std::proofs::lemmas::Bool::Decides::nat_tests), unfolding(crate::specs::Corners::corner_shape))]
 fn misplaced(vert: &[u32], triangle: usize) -> bool
     ensures { result ≡ corner_shape vert.now triangle }
 {
-    if vert.len() == 0 {
-        return true;
-    }
-    if vert.len() % 3 != 0 {
-        return true;
-    }
-    vert.len() / 3 <= triangle
+    vert.len() == 0 || vert.len() % 3 != 0 || vert.len() / 3 <= triangle
 }

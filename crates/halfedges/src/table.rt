@@ -192,36 +192,26 @@ impl HalfedgeTable {
     }
 
     // No cage has these counts: refusal 1 of the count question.
+    #[tactic(auto, using(std::proofs::lemmas::Bool::Decides::nat_tests), unfolding(crate::specs::Counts::count_shape))]
     fn misshapen(self) -> bool
         ensures { result ≡ count_shape self }
     {
-        if self.halfedges == 0 {
-            return true;
-        }
-        if self.halfedges % 3 != 0 {
-            return true;
-        }
-        if self.vertices == 0 {
-            return true;
-        }
-        if self.halfedges < self.edges {
-            return true;
-        }
-        // 2E < H, in numbers that cannot wrap
-        self.edges < self.halfedges - self.edges
+        // the last is 2E < H, in numbers that cannot wrap
+        self.halfedges == 0
+            || self.halfedges % 3 != 0
+            || self.vertices == 0
+            || self.halfedges < self.edges
+            || self.edges < self.halfedges - self.edges
     }
 
     // Refusal 2: H, V or the depth is above its limit.
+    #[tactic(auto, using(std::proofs::lemmas::Bool::Decides::nat_tests), unfolding(crate::specs::Counts::above_limit))]
     pub fn above_limit(self, depth: usize) -> bool
         ensures { result ≡ above_limit self.halfedges self.vertices depth }
     {
-        if HalfedgeTable::MOST_HALFEDGES < self.halfedges {
-            return true;
-        }
-        if HalfedgeTable::MOST_VERTICES < self.vertices {
-            return true;
-        }
-        HalfedgeTable::MOST_DEPTH < depth
+        HalfedgeTable::MOST_HALFEDGES < self.halfedges
+            || HalfedgeTable::MOST_VERTICES < self.vertices
+            || HalfedgeTable::MOST_DEPTH < depth
     }
 }
 
