@@ -56,13 +56,7 @@ fn put_levels(out: &mut [u8], levels: Levels, depth: usize) -> usize
     ensures { Put out.old 0 1024 (count_lines levels depth) out.new result }
 {
     let next = put_lines(&mut *out, levels, depth);
-    lines::put_room(
-        &mut *out,
-        next,
-        levels.halfedge_room,
-        levels.vertex_room,
-        levels.edge_room,
-    )
+    lines::put_room(&mut *out, next, levels)
 }
 
 // The lines of levels 0 to the depth.

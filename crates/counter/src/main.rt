@@ -20,14 +20,6 @@ fn main(rt: HostRuntime) {
 fn count_input(rt: &HostRuntime, text: &mut [u8])
     requires { longest < length text.old }
 {
-    if let Some(length) = streams::read(rt, &mut *text) {
-        count(rt, &text[..length]);
-    }
-}
-
-// Says the reply to a text.
-fn count(rt: &HostRuntime, text: &[u8]) {
     let mut out = [0u8; 1024];
-    let written = counting::count(text, &mut out);
-    streams::say(rt, &out[..written.length], written.status);
+    streams::answer(rt, text, &mut out, counting::count, streams::say);
 }

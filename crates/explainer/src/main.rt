@@ -19,14 +19,6 @@ fn main(rt: HostRuntime) {
 fn explain_input(rt: &HostRuntime, file: &mut [u8])
     requires { longest < length file.old }
 {
-    if let Some(length) = streams::read(rt, &mut *file) {
-        explain(rt, &file[..length]);
-    }
-}
-
-// Says the reply to a file's bytes.
-fn explain(rt: &HostRuntime, file: &[u8]) {
     let mut out = [0u8; 2048];
-    let written = explaining::explain(file, &mut out);
-    streams::say(rt, &out[..written.length], written.status);
+    streams::answer(rt, file, &mut out, explaining::explain, streams::say);
 }

@@ -68,13 +68,7 @@ fn put_levels(out: &mut [u8], levels: Levels, borders: usize) -> usize
     ensures { Put out.old 0 1024 (level_lines levels (doubled borders)) out.new result }
 {
     let next = put_lines(&mut *out, levels, borders);
-    lines::put_room(
-        &mut *out,
-        next,
-        levels.halfedge_room,
-        levels.vertex_room,
-        levels.edge_room,
-    )
+    lines::put_room(&mut *out, next, levels)
 }
 
 // The seven levels' lines; the border edges double from one to the next.

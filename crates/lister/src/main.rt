@@ -19,14 +19,6 @@ fn main(rt: HostRuntime) {
 fn list_input(rt: &HostRuntime, file: &mut [u8])
     requires { longest < length file.old }
 {
-    if let Some(length) = streams::read(rt, &mut *file) {
-        list(rt, &file[..length]);
-    }
-}
-
-// Says the listing of a file's bytes.
-fn list(rt: &HostRuntime, file: &[u8]) {
     let mut out = [0u8; 1024];
-    let written = listing::list(file, &mut out);
-    streams::say(rt, &out[..written.length], written.status);
+    streams::answer(rt, file, &mut out, listing::list, streams::say);
 }

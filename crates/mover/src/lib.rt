@@ -23,16 +23,9 @@ const LONGEST: usize = 46111;
 pub fn move_input(rt: &HostRuntime, file: &mut [u8], from: Form, to: Form)
     requires { longest < length file.old }
 {
-    if let Some(length) = streams::read(rt, &mut *file) {
-        hand_over(rt, &file[..length], from, to);
-    }
-}
-
-// Hands over the moved file, or the refusal.
-fn hand_over(rt: &HostRuntime, file: &[u8], from: Form, to: Form) {
     let mut out = [0u8; LONGEST];
-    let written = reply(file, from, to, &mut out);
-    streams::hand_over(rt, &out[..written.length], written.status);
+    let moved = |file: &[u8], out: &mut [u8; LONGEST]| reply(file, from, to, out);
+    streams::answer(rt, file, &mut out, moved, streams::hand_over);
 }
 
 // The reply to any bytes, the moved file or the refusal's line at the front of out.

@@ -102,12 +102,18 @@ pub fn put_counts(out: &mut [u8], at: usize, counts: LevelCounts, after: u8) -> 
     put_pair(&mut *out, edges_end, halfedges / 3, counts.vertices, after)
 }
 
-// The line of the room.
-pub fn put_room(out: &mut [u8], at: usize, halfedges: usize, vertices: usize, edges: usize) -> usize
+// The line of the room of some levels.
+pub fn put_room(out: &mut [u8], at: usize, levels: Levels) -> usize
     requires { at + 68 ≤ length out.old }
-    ensures { Put out.old at 68 (room_line halfedges vertices edges) out.new result }
+    ensures { Put out.old at 68 (room_line levels.halfedge_room levels.vertex_room levels.edge_room) out.new result }
 {
     let named = put_word(&mut *out, at, b"room", SPACE);
-    let next = put_pair(&mut *out, named, halfedges, vertices, SPACE);
-    put_number(&mut *out, next, edges, NEWLINE)
+    let next = put_pair(
+        &mut *out,
+        named,
+        levels.halfedge_room,
+        levels.vertex_room,
+        SPACE,
+    );
+    put_number(&mut *out, next, levels.edge_room, NEWLINE)
 }

@@ -2,7 +2,8 @@
 ghost use Rattle.std.specs.Prelude.{IfSome};
 ghost use Rattle.io.specs.Counts.{IsPrefixLen};
 
-use crate::replies::Status;
+use crate::replies::{Status, Written};
+use std::convert::AsSlice;
 use std::fs::{File, OpenOptions};
 use std::io::{ErrorKind, Print, Read, Write};
 use std::{fs, io};
@@ -10,6 +11,25 @@ use std::{fs, io};
 // A program writes its status as one digit to descriptor 3, from which the command that started it takes it. Only this path leads to a
 // descriptor that is none of the three standard ones: opening it opens what the descriptor has open once more.
 const STATUS_PATH: &str = "/dev/fd/3";
+
+// Answers what standard input holds, as much as the buffer takes: `reply` puts the reply to what was read at the front of `out`, and
+// `say` gives it out.
+pub fn answer<O: AsSlice<u8>, F: Fn(&[u8], &mut O) -> Written, S: Fn(&HostRuntime, &[u8], Status)>(
+    rt: &HostRuntime,
+    input: &mut [u8],
+    out: &mut O,
+    reply: F,
+    say: S,
+)
+    requires replies { F.IsAlwaysCallable reply }
+    requires prefix_len { (text : _) (room : _) (told : _) (after : _) → F.post reply text room told after → IsPrefixLen told.length (O.items after.now) }
+    requires says { S.IsAlwaysCallable say }
+{
+    if let Some(length) = read(rt, &mut *input) {
+        let written = reply(&input[..length], &mut *out);
+        say(rt, &out.as_slice()[..written.length], written.status);
+    }
+}
 
 // Reads standard input until the buffer is full or the input ends, and answers how many bytes stand at its front; none where a read
 // fails, which is told. A pipe may hand over a part at a time.
