@@ -23,7 +23,7 @@ fn main(rt: HostRuntime) {
 fn export_input(rt: &HostRuntime, file: &mut [u8])
     requires { longest < length file.old }
 {
-    if let Some(length) = streams::read(rt, &mut *file) {
+    if let Ok(length) = streams::read(rt, &mut *file) {
         export(rt, &file[..length]);
     }
 }

@@ -1,5 +1,5 @@
 // The standard streams, and the status that a program ends with.
-ghost use Rattle.std.specs.Prelude.{IfSome};
+ghost use Rattle.std.specs.Prelude.{IfSome, IfOk, IfErr};
 ghost use Rattle.io.specs.Counts.{IsPrefixLen};
 
 use crate::replies::{Status, Written};
@@ -25,27 +25,30 @@ pub fn answer<O: AsSlice<u8>, F: Fn(&[u8], &mut O) -> Written, S: Fn(&HostRuntim
     requires prefix_len { (text : _) (room : _) (told : _) (after : _) → F.post reply text room told after → IsPrefixLen told.length (O.items after.now) }
     requires says { S.IsAlwaysCallable say }
 {
-    if let Some(length) = read(rt, &mut *input) {
+    if let Ok(length) = read(rt, &mut *input) {
         let written = reply(&input[..length], &mut *out);
         say(rt, &out.as_slice()[..written.length], written.status);
     }
 }
 
-// Reads standard input until the buffer is full or the input ends, and answers how many bytes stand at its front; none where a read
-// fails, which is told. A pipe may hand over a part at a time.
-pub fn read(rt: &HostRuntime, buffer: &mut [u8]) -> Option<usize>
-    ensures { IfSome result (λ length. IsPrefixLen length buffer.new) }
+// Reads standard input until the buffer is full or the input ends, and answers how many bytes stand at its front; where a read
+// fails, which is told, how many had come by then. A pipe may hand over a part at a time.
+pub fn read(rt: &HostRuntime, buffer: &mut [u8]) -> Result<usize, usize>
+    ensures whole { IfOk result (λ length. IsPrefixLen length buffer.new) }
+    ensures part { IfErr result (λ length. IsPrefixLen length buffer.new) }
 {
     let mut done = 0;
     // each turn goes on by as much as a read hands over, which no range counts
     while done < buffer.len() {
-        let more = read_part(rt, &mut buffer[done..])?;
+        let Some(more) = read_part(rt, &mut buffer[done..]) else {
+            return Err(done);
+        };
         if more == 0 {
-            return Some(done);
+            return Ok(done);
         }
         done += more;
     }
-    Some(done)
+    Ok(done)
 }
 
 // Reads once: no bytes where the input ends.
