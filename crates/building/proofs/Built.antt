@@ -1,9 +1,12 @@
--- TWIN as it is built, in front of a table (`in_front_lem`). Its checks: what they rely on (`for_vertices`, `for_fans`), and that they are
+-- TWIN as it is built, in front of a table (`in_front_lem`), whatever is told after it (`told_either`), and what its
+-- outcome says (`at_done`, `at_refused`). Its checks: what they rely on (`for_vertices`, `for_fans`), and that they are
 -- those of VERT (`vertex_told`, `fan_told`). Assumes nothing.
 use Prim.Native.Nat.{ℕ, ◌%◌}
 use mathlib.Core.Path.{◌≡◌, sym, ap, ◌∙◌}
+use mathlib.Core.Bool.{true, false, true≢false}
 use mathlib.Core.List.{List}
 use lib.ListN.{length, take}
+use Rattle.std.specs.Prelude.{Result, Ok, Err, is_ok, OnOk, IfErr, MatchResult}
 use Rattle.laws.specs.Parts.{in_front}
 use Rattle.laws.proofs.InFront.{taken_in_front}
 use Rattle.halfedges.specs.Refusals.{Verdict, VERTEX, FAN, given_at}
@@ -14,6 +17,20 @@ use Rattle.tables.specs.Internal.Relied.{ForVertices, ForFans}
 use Rattle.triangles.specs.Plain.{twin_table}
 use Rattle.triangles.proofs.Opposite.{twins_long, twins_paired}
 use Rattle.building.specs.Internal.Relied.{Twinned}
+
+-- what holds in any case holds where it is done
+pub told_either : {A E P : Type 0} (r : Result A E) → P → OnOk r P
+told_either (Ok x) p = p
+told_either (Err e) p = tt
+
+-- a clause for `Ok` where the result is one, and two for `Err`
+pub at_done : {A E P : Type 0} (r : Result A E) → true ≡ is_ok r → OnOk r P → P
+at_done (Ok x) t p = p
+at_done (Err e) t p = absurd (true≢false t)
+
+pub at_refused : {A E : Type 0} (Q : A → Type 0) (R P : E → Type 0) (r : Result A E) → false ≡ is_ok r → MatchResult r Q R → IfErr r P → (e : E) × R e × P e
+at_refused Q R P (Ok x) t m p = absurd (true≢false (sym t))
+at_refused Q R P (Err e) t m p = (e, m, p)
 
 pub in_front_lem : (vert xs : List ℕ) {ys : List ℕ} → ys ≡ in_front (twin_table vert) xs → take (length vert) ys ≡ twin_table vert
 in_front_lem vert xs e = taken_in_front (twin_table vert) xs e (sym (twins_long vert))

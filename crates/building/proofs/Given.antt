@@ -51,31 +51,31 @@ module _ (vert : List ℕ) (points : List ℤ) where
             few = (limits_kept (length vert) (vertices points) 0 l).0;
           }
 
-      -- p is where the first doubled pair has its lower halfedge, or H
-      module _ {p : ℕ} (e : p ≡ lowest (length vert) (doubled vert)) where
-        pub doubled-given : p < length vert → DOUBLED p ≡ first (build_checks vert points)
-        unfolding build_checks
-        doubled-given b =
-            let g = given-lowest (length vert) (doubled vert) DOUBLED (rw (← e) b) in
-            rw e
-            (sym (first_passed _ _ (is_passed _ SHAPE s)
+      -- p is where the first doubled pair has its lower halfedge
+      pub doubled-given : {p : ℕ} → p < length vert → p ≡ lowest (length vert) (doubled vert) → DOUBLED p ≡ first (build_checks vert points)
+      unfolding build_checks
+      doubled-given b e =
+          let g = given-lowest (length vert) (doubled vert) DOUBLED (rw (← e) b) in
+          rw e
+          (sym (first_passed _ _ (is_passed _ SHAPE s)
+          ∙ first_passed _ _ (is_passed _ LIMIT l)
+          ∙ first-refused _ _ (rw g (omega arith))
+          ∙ g))
+
+      -- no pair is doubled
+      module _ (none : lowest (length vert) (doubled vert) ≡ length vert) where
+        none_doubled : Undoubled vert
+        none_doubled = undoubled vert (omega (arith, none))
+
+        pub twinned : {twin : List ℕ} → twin ≡ twin_table vert → Twinned twin vert (vertices points)
+        twinned t = record { built = t; undoubled = none_doubled; whole = whole; few = (limits_kept (length vert) (vertices points) 0 l).1 }
+
+        pub checks_left : first (built_checks vert points) ≡ first (build_checks vert points)
+        unfolding built_checks build_checks
+        checks_left =
+            sym (first_passed _ _ (is_passed _ SHAPE s)
             ∙ first_passed _ _ (is_passed _ LIMIT l)
-            ∙ first-refused _ _ (rw g (omega arith))
-            ∙ g))
-
-        module _ (b : length vert ≤ p) where
-          none_doubled : Undoubled vert
-          none_doubled = undoubled vert (omega (arith, e))
-
-          pub twinned : {twin : List ℕ} → twin ≡ twin_table vert → Twinned twin vert (vertices points)
-          twinned t = record { built = t; undoubled = none_doubled; whole = whole; few = (limits_kept (length vert) (vertices points) 0 l).1 }
-
-          pub checks_left : first (built_checks vert points) ≡ first (build_checks vert points)
-          unfolding built_checks build_checks
-          checks_left =
-              sym (first_passed _ _ (is_passed _ SHAPE s)
-              ∙ first_passed _ _ (is_passed _ LIMIT l)
-              ∙ first_passed _ _ (ap (λ w. w.number) (clean_done _ _ DOUBLED none_doubled.each)))
+            ∙ first_passed _ _ (ap (λ w. w.number) (clean_done _ _ DOUBLED none_doubled.each)))
 
 -- 9, by how long TWIN and EDGE are
 abbrev rooms : ℕ → ℕ → ℕ → List Verdict

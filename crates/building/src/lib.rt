@@ -1,7 +1,7 @@
 // Cages that come as plain triangles: the missing tables, from VERT and the points.
 #![tactic(auto)]
 
-ghost use Rattle.std.specs.Prelude.{◌≡◌, [], ◌∷◌, ◌≤◌, length};
+ghost use Rattle.std.specs.Prelude.{◌≡◌, [], ◌∷◌, ◌≤◌, OnOk, length};
 ghost use Rattle.laws.specs.Parts.{in_front};
 ghost use Rattle.halfedges.specs.Cage.{most_halfedges};
 ghost use Rattle.halfedges.specs.Refusals.{told, short, first};
@@ -72,7 +72,7 @@ fn plan(
 ) -> Result<(), Refusal>
     requires { most_halfedges ≤ length twins.old }
     ensures result_value { told result ≡ build_verdict vert.now points.now twin.now edge.now }
-    ensures twins_after { (told result).number ≡ 0 → twins.new ≡ in_front (twin_table vert.now) twins.old }
+    ensures twins_after { OnOk result (twins.new ≡ in_front (twin_table vert.now) twins.old) }
 {
     check_plain(twins, vert, points)?;
     short_table(vert.len(), twin, edge)
@@ -95,7 +95,7 @@ fn short_table(room: usize, twin: &[u32], edge: &[u32]) -> Result<(), Refusal>
 fn check_plain(twins: &mut [u32], vert: &[u32], points: &[i32]) -> Result<(), Refusal>
     requires { most_halfedges ≤ length twins.old }
     ensures result_value { told result ≡ first (build_checks vert.now points.now) }
-    ensures twins_after { (told result).number ≡ 0 → twins.new ≡ in_front (twin_table vert.now) twins.old }
+    ensures twins_after { OnOk result (twins.new ≡ in_front (twin_table vert.now) twins.old) }
 {
     if cage::unshaped(vert, points) {
         return Err(Refusal::Shape);
@@ -108,10 +108,7 @@ fn check_plain(twins: &mut [u32], vert: &[u32], points: &[i32]) -> Result<(), Re
     if table.above_limit(0) {
         return Err(Refusal::Limit);
     }
-    let place = build_twins(vert, twins);
-    if place < vert.len() {
-        return Err(Refusal::Doubled(place));
-    }
+    build_twins(vert, twins).map_err(Refusal::Doubled)?;
     check_built(&twins[..vert.len()], vert, points)
 }
 

@@ -1,18 +1,34 @@
 // TWIN from VERT, where no directed pair of vertices is on two halfedges. Each halfedge that leaves a vertex is marked by the vertex where
 // it ends, and each one that comes to it looks there for one that runs back.
-ghost use Rattle.std.specs.Prelude.{◌≤◌, ◌<◌, ◌≡◌, length, set};
+ghost use Rattle.std.specs.Prelude.{◌≤◌, ◌<◌, ◌≡◌, IfErr, OnOk, length, set};
+ghost use Rattle.laws.specs.Below.{lowest};
 ghost use Rattle.laws.specs.Parts.{in_front};
 ghost use Rattle.alike.specs.Internal.Alike.{bound, Ready, Chain, Marked};
 ghost use Rattle.alike.specs.Internal.Narrowed.{Small};
 ghost use Rattle.halfedges.specs.Cage.{PREV, cell};
+ghost use Rattle.triangles.specs.Plain.{doubled, twin_table};
 ghost use Rattle.triangles.specs.Internal.Joining.{Whole, Twinning, Ended, end_table, crossing, Lower, Joined};
 
 use alike;
 use alike::numbers;
 use halfedges::table::HalfedgeTable;
 
-// TWIN in front of a table. Gives the lower halfedge of the first pair that is on two, and where there is none H.
-pub fn build_twins(vert: &[u32], twin: &mut [u32]) -> usize
+// TWIN in front of a table, or else the lower halfedge of the first pair that is on two.
+pub fn build_twins(vert: &[u32], twin: &mut [u32]) -> Result<(), usize>
+    requires { Whole vert.now × (length vert.now ≤ length twin.old) }
+    ensures err { IfErr result (λ place. (place < length vert.now) × (place ≡ lowest (length vert.now) (doubled vert.now))) }
+    ensures ok { OnOk result ((lowest (length vert.now) (doubled vert.now) ≡ length vert.now)
+        × (twin.new ≡ in_front (twin_table vert.now) twin.old)) }
+{
+    let place = find_twins(vert, twin);
+    if place < vert.len() {
+        return Err(place);
+    }
+    Ok(())
+}
+
+// The same by the lowest place so far, which is carried on: H where there is none.
+fn find_twins(vert: &[u32], twin: &mut [u32]) -> usize
     requires { Whole vert.now × (length vert.now ≤ length twin.old) }
     ensures { Twinning vert.now twin.old result twin.new }
 {

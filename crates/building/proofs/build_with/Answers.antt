@@ -1,6 +1,6 @@
 -- `build_with` hands on its checks' refusal, and else writes what stands in the table apart.
 use Prim.Native.Nat.{◌≤◌}
-use mathlib.Core.Path.{◌≡◌, refl, sym}
+use mathlib.Core.Path.{◌≡◌, sym}
 use native.Mathlib.Omega.{arith}
 use lib.ListN.{length, take}
 use lib.Seq.{length-take-le}
@@ -25,7 +25,7 @@ module _ (i : In_ok-plan) where
   fits = omega (arith, (limits _ _ _ _ done).0, start.requires, i.plan.auto.twins)
 
   built : take (length start.args.vert.now) i.plan.new.twins ≡ twin_table start.args.vert.now
-  built = in_front_lem start.args.vert.now start.args.twins.now (i.in_ok-plan.ensures.twins_after refl)
+  built = in_front_lem start.args.vert.now start.args.twins.now i.in_ok-plan.ensures.twins_after
 
 pub returns-in_err-plan : goal.returns-in_err-plan
 returns-in_err-plan c = rw (handed_on c.from_residual.ensures) (build_refused _ _ _ _ _ c.in_err-plan.ensures.result_value)
