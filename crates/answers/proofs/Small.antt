@@ -1,6 +1,6 @@
 -- Lists of small numbers (`fitting_at`, `fitting_both`, `fitting_front`, `fitting_rest`, `fitting_tabulate`, `zeros_fit`, `fitting_when`),
--- every refusal's number (`number_small`), and checks with a small number and place: one of them (`given_small`, `given_at_small`), the first
--- of several (`first_small`, `guarded_small`, `joined_small`). Assumes nothing.
+-- and checks with a small number and place: one of them (`given_small`, `given_at_small`), the first of several (`first_small`,
+-- `guarded_small`, `joined_small`). Assumes nothing.
 use Prim.Native.Nat.{ℕ, zero, suc, ◌≤◌, ◌<◌, zero-le, suc-le-suc}
 use mathlib.Core.Path.{◌≡◌, refl}
 use mathlib.Core.Bool.{Bool, true, false, cond}
@@ -13,9 +13,7 @@ use borrow.Author.Tests.{eqb-true}
 use Rattle.laws.specs.Below.{tabulate, any, lowest}
 use Rattle.laws.proofs.Tests.{by-test}
 use Rattle.laws.proofs.Lowest.{lowest_within}
-use Rattle.halfedges.specs.declared.refusal.Refusal.{Refusal}
-use Rattle.halfedges.specs.declared.refusal.Refusal.TheVariants.{Shape, Limit, Twin, Vertex, Unused, Edge, Fan, Point, Room, Short, Field, Extra, Doubled, Valence, Crease, NotOld, NoSuchHalfedge}
-use Rattle.halfedges.specs.Refusals.{Verdict, DONE, refused, given, given_at, when_done, first}
+use Rattle.halfedges.specs.Refusals.{Verdict, DONE, given, given_at, when_done, first}
 use Rattle.halfedges.proofs.Checks.{first_refused_before, first_more, first_zero}
 use Rattle.answers.specs.Internal.Fitting.{Fitting}
 
@@ -46,26 +44,6 @@ zeros_fit = (omega arith, (omega arith, (omega arith, (omega arith, (omega arith
 
 pub fitting_when : (v : Verdict) (ns ms : List ℕ) → (v.number ≡ 0 → Fitting ns) → Fitting ms → Fitting (when_done v ns ms)
 fitting_when v ns ms f g = by-test (eqb v.number 0) (λ e. rw e (f (eqb-true v.number 0 e))) (λ e. rw e g)
-
--- every number fits a cell
-pub number_small : (r : Refusal) → (refused r).number < 4294967296
-number_small Shape = omega arith
-number_small Limit = omega arith
-number_small (Twin h) = omega arith
-number_small (Vertex h) = omega arith
-number_small (Unused v) = omega arith
-number_small (Edge h) = omega arith
-number_small (Fan v) = omega arith
-number_small (Point i) = omega arith
-number_small (Room t) = omega arith
-number_small (Short o) = omega arith
-number_small (Field o) = omega arith
-number_small (Extra o) = omega arith
-number_small (Doubled h) = omega arith
-number_small (Valence v) = omega arith
-number_small (Crease e) = omega arith
-number_small NotOld = omega arith
-number_small (NoSuchHalfedge h) = omega arith
 
 -- a verdict whose number and place fit a cell
 abbrev pub Small : Verdict → Type 0

@@ -23,6 +23,7 @@ fn main(rt: HostRuntime) {
 fn export_input(rt: &HostRuntime, file: &mut [u8])
     requires { longest < length file.old }
 {
+    // its reply is put out in parts, so `streams::answer` does not do
     if let Ok(length) = streams::read(rt, &mut *file) {
         export(rt, &file[..length]);
     }

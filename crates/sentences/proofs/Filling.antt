@@ -1,6 +1,6 @@
--- A text filled byte by byte: `filled_none` before the first, `filled_more` by one, `filled_all` with the end of the line. Assumes nothing.
+-- A text filled byte by byte: `filled_more` by one, `filled_all` with the end of the line. Assumes nothing.
 use Prim.Native.Nat.{ℕ, ◌+◌, ◌*◌, ◌≤◌, ◌<◌, zero-le}
-use mathlib.Core.Path.{◌≡◌, refl, sym, ap, ◌∙◌}
+use mathlib.Core.Path.{◌≡◌, sym, ap, ◌∙◌}
 use mathlib.Core.Bool.{cond}
 use mathlib.Core.List.{List, [], ◌∷◌, ◌++◌, append_assoc, append-nil}
 use native.Mathlib.Nat.{add-zero}
@@ -12,7 +12,7 @@ use lib.Seq.{drop-cons, drop-length, get_or-drop, drop-drop}
 use Rattle.laws.proofs.Tests.{by-test}
 use Rattle.text.specs.Lines.{newline}
 use Rattle.text.specs.Internal.Put.{Put}
-use Rattle.text.proofs.Texts.{put_none, put_more, put_within}
+use Rattle.text.proofs.Texts.{put_more, put_within}
 use Rattle.sentences.specs.Sentences.{hash, fill}
 use Rattle.sentences.specs.Internal.Pieces.{piece}
 
@@ -22,10 +22,6 @@ pub record Filled (before text ns now : List ℕ) (at used i : ℕ) : Type 0 whe
   pub few : used ≤ i
   pub put : Put before 0 (20 * i) done now at
   pub rest : fill text ns ≡ done ++ fill (drop i text) (drop used ns)
-
-pub filled_none : (before text ns : List ℕ) → Filled before text ns before 0 0 0
-unfolding fill
-filled_none before text ns = record { done = []; few = zero-le; put = put_none before 0; rest = refl }
 
 -- one byte more, and its number
 next_byte : (text ns : List ℕ) (i used : ℕ) → i < length text → fill (drop i text) (drop used ns) ≡ piece (get_or text i 0) (get_or ns used 0) ++ fill (drop (i + 1) text) (drop (cond (eqb (get_or text i 0) hash) (used + 1) used) ns)

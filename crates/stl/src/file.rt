@@ -1,5 +1,5 @@
 // The file's bytes: its head, and facet after facet.
-ghost use Rattle.std.specs.Prelude.{◌≡◌, ◌+◌, ◌*◌, ◌≤◌, length, replicate};
+ghost use Rattle.std.specs.Prelude.{◌≡◌, ◌+◌, ◌*◌, ◌≤◌, length};
 ghost use Rattle.laws.specs.Below.{end_to_end};
 ghost use Rattle.laws.specs.Parts.{in_front};
 ghost use Rattle.halfedges.specs.Cage.{F};

@@ -4,7 +4,6 @@
 ghost use Rattle.std.specs.Prelude.{◌≡◌};
 ghost use Rattle.halfedges.specs.Refusals.{refused};
 ghost use Rattle.tables.specs.Tables.{held};
-ghost use Rattle.clauses.specs.Clauses.{no_clause};
 ghost use Rattle.clauses.specs.Shown.{numbers};
 ghost use Rattle.why.specs.Why.{why_cage, reason, explains};
 
