@@ -1,6 +1,6 @@
-// The refusals, their numbers and places.
+// The refusals, their numbers and places, and those of any answer.
 ghost use Rattle.std.specs.Prelude.{◌≡◌};
-ghost use Rattle.halfedges.specs.Refusals.{refused};
+ghost use Rattle.halfedges.specs.Refusals.{refused, told};
 
 // Why something is refused, with the place where there is one.
 #[derive(Clone, Copy, Debug, PartialEq, Eq)]
@@ -72,4 +72,18 @@ impl Refusal {
             Refusal::NoSuchHalfedge(halfedge) => halfedge,
         }
     }
+}
+
+// An answer's number; 0 where it is done.
+pub fn number<T>(answer: &Result<T, Refusal>) -> usize
+    ensures { result ≡ (told answer.now).number }
+{
+    answer.as_ref().err().map_or(0, |refusal| refusal.number())
+}
+
+// An answer's place; 0 where it is done.
+pub fn place<T>(answer: &Result<T, Refusal>) -> usize
+    ensures { result ≡ (told answer.now).place }
+{
+    answer.as_ref().err().map_or(0, |refusal| refusal.place())
 }
