@@ -46,7 +46,7 @@ fn put_counting(out: &mut [u8], question: Question) -> Written
             status: Status::Answered,
             length: put_levels(&mut *out, levels, depth),
         },
-        Err(refusal) => replies::put_refusal(&mut *out, refusal),
+        Err(refusal) => replies::put_refusal(&mut *out, Err(refusal)),
     }
 }
 

@@ -21,8 +21,9 @@ use Rattle.tables.specs.declared.check.Checked.{Checked}
 use Rattle.tables.specs.Check.{returned, checked}
 use Rattle.filechecks.specs.Contents.{cage_in}
 use Rattle.filechecks.proofs.Lengths.{twins-length, verts_length, points_length}
+use Rattle.text.specs.declared.replies.Status.TheVariants.{Answered}
 use Rattle.text.specs.declared.replies.Written.{Written}
-use Rattle.text.specs.Replies.{Reply, refused}
+use Rattle.text.specs.Replies.{Reply, refused, status_number}
 use Rattle.text.specs.Internal.Put.{Replied}
 use Rattle.cagefile.proofs.Fits.{Fits}
 use Rattle.writing.proofs.Accepted.{accepted_fits}
@@ -38,9 +39,9 @@ use Rattle.exporter.specs.Internal.Steps.{Small, Opening, Within}
 -- ---- a checked cage
 
 pub head-opening : (c : Checked) {before after : List ℕ} → after ≡ in_front (stl_head c.triangles) before
-    → Opening c before after (record { length = 84; halfedges = c.halfedges; coordinates = 3 * c.vertices })
+    → Opening c before after (record { status = Answered; length = 84; halfedges = c.halfedges; coordinates = 3 * c.vertices })
 head-opening c p =
-    record { text = p; ends = sym (head-length c.triangles); short = omega arith; halfedges = refl; coordinates = refl }
+    record { status = refl; text = p; ends = sym (head-length c.triangles); short = omega arith; halfedges = refl; coordinates = refl }
 
 -- ---- a file that is accepted
 
@@ -68,7 +69,7 @@ module _ (f : List ℕ) (c : Checked) (e : checked (Ok c) ≡ check_file f) wher
         let there = eq-eqb (check_file f).verdict.number 0 (accepts f c e) in
         let head : stl_head c.triangles ≡ opening f = rw (there, F_is) in
         record {
-          status = ap (λ a. a.status) (reply_answered f level_stl (accepts f c e));
+          status = ap status_number o.status ∙ ap (λ a. a.status) (reply_answered f level_stl (accepts f c e));
           text = o.text ∙ ap (λ b. in_front b before) head;
           ends = o.ends ∙ ap length head;
           corners = rw (there, o.halfedges) t.corners;

@@ -7,7 +7,6 @@ use Rattle.halfedges.specs.Refusals.{when_done}
 use Rattle.tables.specs.Tables.{Tables}
 use Rattle.filechecks.specs.Contents.{cage_in}
 use Rattle.text.specs.declared.replies.Status.{Status}
-use Rattle.text.specs.declared.replies.Status.TheVariants.{Answered}
 use Rattle.text.specs.declared.replies.Written.{Written}
 use Rattle.text.specs.Replies.{Reply, refused, status_number}
 use Rattle.intake.specs.Intake.{check_file, file_reply}
@@ -41,13 +40,13 @@ facets_out f = end_to_end (F (length (corners_out f))) (facet_at (corners_out f)
 
 -- the status that is told: of an answer, or of the refusal
 abbrev pub status_of : Result Opened Written → Status
-status_of (Ok o) = Answered
+status_of (Ok o) = o.status
 status_of (Err w) = w.status
 
 -- the lengths that are told: a refusal's line goes before no facets
 abbrev pub lengths_of : Result Opened Written → Opened
 lengths_of (Ok o) = o
-lengths_of (Err w) = record { length = w.length; halfedges = 0; coordinates = 0 }
+lengths_of (Err w) = record { status = w.status; length = w.length; halfedges = 0; coordinates = 0 }
 
 -- the opening stands in front of what the lent text held, and VERT and points of the facets at the fronts of their tables; its length,
 -- the status and the lengths of both are told

@@ -12,12 +12,13 @@ use halfedges::table::HalfedgeTable;
 use stl::file;
 use tables::check::Checked;
 use text::replies;
-use text::replies::Written;
+use text::replies::{Status, Written};
 
-// What an accepted cage's STL is made from: the length of its head, and how many cells of VERT and of the points the facets are made
-// from.
+// What an accepted cage's STL is made from: the status that its reply ends with, the length of its head, and how many cells of VERT
+// and of the points the facets are made from.
 #[derive(Clone, Copy)]
 pub struct Opened {
+    pub status: Status,
     pub length: usize,
     pub halfedges: usize,
     pub coordinates: usize,
@@ -35,7 +36,7 @@ pub fn open(
 {
     match check_file(file, vert, points) {
         Ok(checked) => Ok(put_opening(&mut *out, checked)),
-        Err(refusal) => Err(replies::put_refusal(&mut *out, refusal)),
+        Err(refusal) => Err(replies::put_refusal(&mut *out, Err(refusal))),
     }
 }
 
@@ -57,6 +58,7 @@ fn put_opening(out: &mut [u8], checked: Checked) -> Opened
 {
     file::put_head(&mut *out, checked.triangles as u32);
     Opened {
+        status: Status::Answered,
         length: file::FACETS,
         halfedges: checked.halfedges,
         coordinates: 3 * checked.vertices,

@@ -9,7 +9,6 @@ mod exporting;
 
 use halfedges::table::HalfedgeTable;
 use stl::facets;
-use text::replies::Status;
 use text::streams;
 
 fn main(rt: HostRuntime) {
@@ -39,7 +38,7 @@ fn export(rt: &HostRuntime, file: &[u8]) {
             if streams::put(rt, &out[..opened.length])
                 && put_facets(rt, &vert[..opened.halfedges], &points[..opened.coordinates])
             {
-                streams::end(rt, Status::Answered);
+                streams::end(rt, opened.status);
             }
         }
         Err(refused) => streams::say(rt, &out[..refused.length], refused.status),

@@ -25,7 +25,7 @@ pub fn list(file: &[u8], out: &mut [u8; 1024]) -> Written
 {
     match check_file(file) {
         Ok(checked) => put_listing(&mut *out, checked),
-        Err(refusal) => replies::put_refusal(&mut *out, refusal),
+        Err(refusal) => replies::put_refusal(&mut *out, Err(refusal)),
     }
 }
 

@@ -48,6 +48,6 @@ fn put_reply(out: &mut [u8], moved: Result<usize, Refusal>) -> Written
             status: Status::Answered,
             length,
         },
-        Err(refusal) => replies::put_refusal(out, refusal),
+        Err(refusal) => replies::put_refusal(out, Err(refusal)),
     }
 }

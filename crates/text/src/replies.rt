@@ -1,10 +1,11 @@
 // What a program says: a status and a text.
-ghost use Rattle.std.specs.Prelude.{◌+◌, ◌≤◌, length};
-ghost use Rattle.halfedges.specs.Refusals.{refused as refusals_refused};
-ghost use Rattle.text.specs.Replies.{refused, misused};
+ghost use Rattle.std.specs.Prelude.{◌≡◌, ℕ, ◌+◌, ◌≤◌, length};
+ghost use Rattle.halfedges.specs.Refusals.{told};
+ghost use Rattle.text.specs.Replies.{refused, misused, status_number};
 ghost use Rattle.text.specs.Internal.Put.{Replied};
 
 use crate::lines;
+use halfedges::refusal;
 use halfedges::refusal::Refusal;
 
 // How a program ends, by the number that it hands over.
@@ -20,6 +21,31 @@ pub enum Status {
     Failed = 3,
 }
 
+// What a program may end with: a status, or any other number.
+pub trait Ending {
+    ghost number: { Self → ℕ };
+
+    // The number that is handed over.
+    fn number(self) -> usize
+        ensures { result ≡ number self };
+}
+
+impl Ending for Status {
+    ghost number = { status_number };
+
+    fn number(self) -> usize {
+        self as usize
+    }
+}
+
+impl Ending for usize {
+    ghost number = { λ status. status };
+
+    fn number(self) -> usize {
+        self
+    }
+}
+
 // A reply's status, and how many bytes its text has, at the front of what was lent for it.
 // A length and no slice: the contract says what stands in all that was lent, also past the text.
 #[derive(Clone, Copy)]
@@ -28,13 +54,13 @@ pub struct Written {
     pub length: usize,
 }
 
-// A refusal: its line.
-pub fn put_refusal(out: &mut [u8], refusal: Refusal) -> Written
+// A refusal: its line. An answer that is done has number and place 0 in it.
+pub fn put_refusal(out: &mut [u8], answer: Result<(), Refusal>) -> Written
     requires { 50 ≤ length out.old }
-    ensures { Replied out.old 50 (refused (refusals_refused refusal)) out.new result }
+    ensures { Replied out.old 50 (refused (told answer)) out.new result }
 {
-    let number = refusal.number();
-    let place = refusal.place();
+    let number = refusal::number(&answer);
+    let place = refusal::place(&answer);
     let next = lines::put_word(&mut *out, 0, b"refused", lines::SPACE);
     let length = lines::put_pair(&mut *out, next, number, place, lines::NEWLINE);
     Written {

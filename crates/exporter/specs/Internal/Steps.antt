@@ -3,6 +3,7 @@ use Rattle.std.specs.Prelude.{ℕ, ◌*◌, ◌≤◌, ◌≡◌, List, ℤ, Res
 use Rattle.laws.specs.Parts.{in_front}
 use Rattle.halfedges.specs.Cage.{most_halfedges, most_vertices}
 use Rattle.tables.specs.declared.check.Checked.{Checked}
+use Rattle.text.specs.declared.replies.Status.TheVariants.{Answered}
 use Rattle.text.specs.declared.replies.Written.{Written}
 use Rattle.stl.specs.File.{stl_head}
 use Rattle.exporter.specs.declared.exporting.Opened.{Opened}
@@ -16,6 +17,7 @@ pub record Small (c : Checked) : Type 0 where
 
 -- the head of an accepted cage's STL stands at the front, and what is told with it
 pub record Opening (c : Checked) (before after : List ℕ) (r : Opened) : Type 0 where
+  pub status : r.status ≡ Answered
   pub text : after ≡ in_front (stl_head c.triangles) before
   pub ends : r.length ≡ length (stl_head c.triangles)
   pub short : r.length ≤ 84
