@@ -1,5 +1,5 @@
 -- What the code's clause says: a clause by its number in the rule, with its numbers.
-use Rattle.std.specs.Prelude.{ℕ, Option, Some, None, List, [], ◌∷◌}
+use Rattle.std.specs.Prelude.{ℕ, Option, Some, None, List, [], ◌∷◌, get_or}
 use Rattle.halfedges.specs.Refusals.{Verdict, TWIN, VERTEX, UNUSED, EDGE, FAN}
 use Rattle.clauses.specs.declared.Clause.{Clause as Kind}
 use Rattle.clauses.specs.declared.Clause.TheVariants.{TwinPast, TwinItself, NotReturned, VertexPast, EndsAlike, TwinEndsDiffer, Unused, EdgePast, EdgeDiffers, EdgeShared, Apart}
@@ -27,6 +27,10 @@ shown (Some k) = named k
 -- its number and the three numbers, one after another
 abbrev pub numbers : Clause → List ℕ
 numbers k = k.number ∷ k.first ∷ k.second ∷ k.third ∷ []
+
+-- and the clause that any four numbers are
+abbrev pub of_numbers : List ℕ → Clause
+of_numbers ns = clause (get_or ns 0 0) (get_or ns 1 0) (get_or ns 2 0) (get_or ns 3 0)
 
 -- the refusal of its rule, at a place
 abbrev pub broken : Kind → ℕ → Verdict

@@ -2,7 +2,7 @@
 #![tactic(auto)]
 
 ghost use Rattle.std.specs.Prelude.{◌≡◌, IfSome};
-ghost use Rattle.halfedges.specs.Refusals.{refused};
+ghost use Rattle.halfedges.specs.Refusals.{refused, told};
 ghost use Rattle.tables.specs.Tables.{held};
 ghost use Rattle.clauses.specs.Clauses.{clause_at};
 ghost use Rattle.clauses.specs.Shown.{numbers, named, shown, broken};
@@ -69,14 +69,16 @@ impl Clause {
     }
 }
 
-// The clause of a refusal of the tables, where its rule has clauses.
+// The clause of what a check of the tables answered, where it is refused by a rule that has clauses.
 #[tactic(auto, unfolding(crate::specs::Clauses::clause_at))]
-pub fn clause_at(tables: &Tables, vertices: usize, refusal: Refusal) -> Option<Clause>
-    requires { Reached (held tables.now) vertices (refused refusal) }
-    ensures value { shown result ≡ clause_at (held tables.now) vertices (refused refusal) }
-    ensures rule { IfSome result
-        (λ k. broken k (refused refusal).place ≡ refused refusal) }
+pub fn clause_at(tables: &Tables, vertices: usize, answer: Result<(), Refusal>) -> Option<Clause>
+    requires { Reached (held tables.now) vertices (told answer) }
+    ensures value { shown result ≡ clause_at (held tables.now) vertices (told answer) }
+    ensures rule { IfSome result (λ k. broken k (told answer).place ≡ told answer) }
 {
+    let Err(refusal) = answer else {
+        return None;
+    };
     match refusal {
         Refusal::Twin(halfedge) => Some(rules::twin_clause(tables.twin, halfedge)),
         Refusal::Vertex(halfedge) => Some(rules::vertex_clause(

@@ -74,7 +74,7 @@ fn clause_in(file: &[u8], refusal: Refusal) -> Option<Clause>
         vert: &vert[..halfedges],
         edge: &edge[..halfedges],
     };
-    clauses::clause_at(&tables, vertices, refusal)
+    clauses::clause_at(&tables, vertices, Err(refusal))
 }
 
 // The reply to a file that is refused, with its clause where there is one.
@@ -85,8 +85,8 @@ fn put_refused(out: &mut [u8], refusal: Refusal, clause: Option<Clause>) -> Writ
     match clause {
         Some(clause) => Written {
             status: Status::Refused,
-            length: sentences::put_because(&mut *out, refusal, clause),
+            length: sentences::put_because(&mut *out, Err(refusal), clause.numbers()),
         },
-        None => replies::put_refusal(&mut *out, refusal),
+        None => replies::put_refusal(&mut *out, Err(refusal)),
     }
 }

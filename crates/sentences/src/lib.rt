@@ -2,14 +2,13 @@
 #![tactic(auto)]
 
 ghost use Rattle.std.specs.Prelude.{◌≡◌, ◌+◌, ◌*◌, ◌≤◌, length};
-ghost use Rattle.halfedges.specs.Refusals.{refused};
+ghost use Rattle.halfedges.specs.Refusals.{told};
 ghost use Rattle.tables.specs.Check.{numbers as check_numbers};
-ghost use Rattle.clauses.specs.Shown.{named};
+ghost use Rattle.clauses.specs.Shown.{of_numbers};
 ghost use Rattle.text.specs.Internal.Put.{Put};
 ghost use Rattle.sentences.specs.Sentences.{saying, of_three, shown as sentences_shown, twin_line, fan_line, because, accepted};
 ghost use Rattle.sentences.specs.Internal.Pieces.{piece};
 
-use clauses::Clause;
 use halfedges::refusal::Refusal;
 use halfedges::table::HalfedgeTable;
 use tables::check::Checked;
@@ -52,10 +51,10 @@ fn put_saying(out: &mut [u8], text: &[u8], numbers: [usize; 5]) -> usize
 // ---- the clauses
 
 // The place twice, and the numbers shown.
-fn shown(place: usize, clause: Clause) -> [usize; 5]
-    ensures { result ≡ sentences_shown place (named clause) }
+fn shown(place: usize, clause: [u32; 4]) -> [usize; 5]
+    ensures { result ≡ sentences_shown place (of_numbers clause) }
 {
-    let [_, first, second, third] = clause.numbers();
+    let [_, first, second, third] = clause;
     [
         place,
         place,
@@ -69,16 +68,16 @@ fn shown(place: usize, clause: Clause) -> [usize; 5]
 fn put_clause(
     out: &mut [u8],
     place: usize,
-    clause: Clause,
+    clause: [u32; 4],
     one: &[u8],
     two: &[u8],
     three: &[u8],
 ) -> usize
     requires { (2048 ≤ length out.old) × (length one.now ≤ 100) × (length two.now ≤ 100) × (length three.now ≤ 100) }
-    ensures { let k = named clause in Put out.old 0 2048 (of_three k.number one.now two.now three.now
+    ensures { let k = of_numbers clause in Put out.old 0 2048 (of_three k.number one.now two.now three.now
         (sentences_shown place k)) out.new result }
 {
-    let [number, ..] = clause.numbers();
+    let [number, ..] = clause;
     let text = match number {
         1 => one,
         2 => two,
@@ -89,11 +88,11 @@ fn put_clause(
 
 // Rule 3.
 #[tactic(auto, unfolding(crate::specs::Sentences::twin_line))]
-fn put_twin(out: &mut [u8], place: usize, clause: Clause) -> usize
+fn put_twin(out: &mut [u8], place: usize, clause: [u32; 4]) -> usize
     requires { 2048 ≤ length out.old }
-    ensures { Put out.old 0 2048 (twin_line place (named clause)) out.new result }
+    ensures { Put out.old 0 2048 (twin_line place (of_numbers clause)) out.new result }
 {
-    let [_, _, second, _] = clause.numbers();
+    let [_, _, second, _] = clause;
     if second == HalfedgeTable::NO_TWIN {
         return put_saying(
             &mut *out,
@@ -111,11 +110,11 @@ fn put_twin(out: &mut [u8], place: usize, clause: Clause) -> usize
     )
 }
 
-// Rule 7, for which any other refusal stands.
+// Rule 7, for which any other answer stands.
 #[tactic(auto, using(text::proofs::Texts::put_within), unfolding(crate::specs::Sentences::fan_line))]
-fn put_fan(out: &mut [u8], place: usize, clause: Clause) -> usize
+fn put_fan(out: &mut [u8], place: usize, clause: [u32; 4]) -> usize
     requires { 2048 ≤ length out.old }
-    ensures { Put out.old 0 2048 (fan_line place (named clause)) out.new result }
+    ensures { Put out.old 0 2048 (fan_line place (of_numbers clause)) out.new result }
 {
     put_saying(
         &mut *out,
@@ -124,12 +123,15 @@ fn put_fan(out: &mut [u8], place: usize, clause: Clause) -> usize
     )
 }
 
-// A refusal from 3 to 7, with its clause.
+// A refusal from 3 to 7, with its clause: what `Clause::numbers` gives, or any four numbers.
 #[tactic(auto, using(text::proofs::Texts::put_within), unfolding(crate::specs::Sentences::because, crate::specs::Sentences::vertex_line, crate::specs::Sentences::unused_line, crate::specs::Sentences::edge_line))]
-pub fn put_because(out: &mut [u8], refusal: Refusal, clause: Clause) -> usize
+pub fn put_because(out: &mut [u8], answer: Result<(), Refusal>, clause: [u32; 4]) -> usize
     requires { 2048 ≤ length out.old }
-    ensures { Put out.old 0 2048 (because (refused refusal) (named clause)) out.new result }
+    ensures { Put out.old 0 2048 (because (told answer) (of_numbers clause)) out.new result }
 {
+    let Err(refusal) = answer else {
+        return put_fan(&mut *out, 0, clause);
+    };
     match refusal {
         Refusal::Twin(halfedge) => put_twin(&mut *out, halfedge, clause),
         Refusal::Vertex(halfedge) => put_clause(

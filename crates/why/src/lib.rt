@@ -48,7 +48,7 @@ pub fn explain(cage: &Cage) -> Result<(), Why>
         Ok(_) => return Ok(()),
         Err(refusal) => refusal,
     };
-    match clauses::clause_at(&cage.tables, cage.vertices(), refusal) {
+    match clauses::clause_at(&cage.tables, cage.vertices(), Err(refusal)) {
         Some(clause) => {
             let place = refusal.place();
             Err(Why::Broken { clause, place })

@@ -1,11 +1,7 @@
 -- Each clause has its text.
-use Prim.Native.Nat.{ℕ}
-use mathlib.Core.Path.{◌≡◌, sym, ap}
-use mathlib.Core.List.{List}
 use native.Mathlib.Omega.{arith}
-use lib.ListN.{get_or}
 use borrow.Author.Tests.{eq-eqb, ne_eqb}
-use Rattle.clauses.specs.Shown.{named}
+use Rattle.clauses.specs.Shown.{of_numbers}
 use Rattle.text.proofs.Texts.{put_within}
 use Rattle.sentences.specs.Sentences.{of_three}
 use Rattle.sentences.proofs.put_clause.Goals as goal
@@ -14,8 +10,7 @@ use Rattle.sentences.proofs.put_clause.Goals.{in-1, in-2, in_default}
 pub returns : goal.returns
 unfolding of_three
 returns c =
-    let k = named c.args.clause in
-    let n : k.number ≡ get_or c.numbers.result 0 0 = sym (ap (λ (ns : List ℕ). get_or ns 0 0) c.numbers.ensures) in
+    let k = of_numbers c.args.clause in
     let p = rw c.shown.ensures at c.put_saying.ensures in
     elim c.match-number.branch [
       | in-1 w ↦ rw (eq-eqb k.number 1 (omega arith)) (put_within (omega arith) (rw w.text-is at p))
