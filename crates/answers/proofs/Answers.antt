@@ -1,6 +1,6 @@
 -- Every answer but those about files fits its cells: of the cage check (`check_fits`), saying why (`why_fits`), building (`build_fits`), the
 -- count question (`counts_fit`), refining (`refine_fits`) and the corner question (`corners_fit`). Assumes nothing.
-use Rattle.std.specs.Prelude.{Result, Ok, Err, IfOk}
+use Rattle.std.specs.Prelude.{Result}
 use Prim.Native.Nat.{ℕ, suc, ◌≤◌, ◌<◌}
 use mathlib.Core.Path.{◌≡◌, refl}
 use mathlib.Core.Bool.{Bool, true, false, cond}
@@ -18,7 +18,7 @@ use Rattle.halfedges.specs.declared.table.HalfedgeTable.{HalfedgeTable}
 use Rattle.halfedges.specs.declared.table.Levels.{Levels}
 use Rattle.halfedges.specs.declared.refusal.Refusal.{Refusal}
 use Rattle.halfedges.specs.Cage.{most_halfedges, most_vertices, most_depth, border, above, E, B}
-use Rattle.halfedges.specs.Refusals.{Verdict, SHAPE, LIMIT, VERTEX, UNUSED, FAN, POINT, DOUBLED, told, when_done, first, Said, said}
+use Rattle.halfedges.specs.Refusals.{Verdict, SHAPE, LIMIT, VERTEX, UNUSED, FAN, POINT, DOUBLED, when_done, first, Said, said}
 use Rattle.halfedges.specs.Internal.Counts.{AtMost}
 use Rattle.halfedges.specs.Counts.{counts_at, Hs, Es, Vs, seven, levels, no_levels, count_shape, above_limit, count_question, counted}
 use Rattle.halfedges.specs.Corners.{corner_shape, corner_question, cornered}
@@ -169,9 +169,8 @@ levels_fit : (s : Said Levels) → Small s.verdict → Laid s.values → LevelsF
 levels_fit s v l = record { sevens = l.sevens; fitting = (v.0, (v.1, l.fitting)) }
 
 -- a result that tells an answer with counts whose verdict is small
-pub levels-told : (r : Result Levels Refusal) (s : Said Levels) → counted r ≡ s → LevelsFit s → IfOk r Sevens × Fitting (level_cells (counted r))
-levels-told (Ok l) s e f = let g : LevelsFit (counted (Ok l)) = rw e f in (g.sevens, g.fitting)
-levels-told (Err q) s e f = let g : LevelsFit (counted (Err q)) = rw e f in (tt, g.fitting)
+pub levels-told : (r : Result Levels Refusal) (s : Said Levels) → counted r ≡ s → LevelsFit s → Sevens (counted r).values × Fitting (level_cells (counted r))
+levels-told r s e f = let g : LevelsFit (counted r) = rw e f in (g.sevens, g.fitting)
 
 pub counts_fit : (t : HalfedgeTable) (depth : ℕ) → LevelsFit (count_question t depth)
 unfolding count_question said
@@ -202,6 +201,5 @@ corners_fit vert triangle =
     (λ s. rw (corner_shape_lem vert triangle s) (record { small = (omega arith, omega arith); corners = refl }))
     (λ s. rw (corner_done vert triangle s) (record { small = (omega arith, omega arith); corners = refl }))
 
-pub corners-told : (r : Result (List ℕ) Refusal) (s : Said (List ℕ)) → cornered r ≡ s → CornersFit s → Fitting (cells (record { verdict = told r; values = [] })) × IfOk r (λ c. length c ≡ 3)
-corners-told (Ok c) s e f = let g : CornersFit (cornered (Ok c)) = rw e f in ((g.small.0, (g.small.1, tt)), g.corners)
-corners-told (Err q) s e f = let g : CornersFit (cornered (Err q)) = rw e f in ((g.small.0, (g.small.1, tt)), tt)
+pub corners-told : (r : Result (List ℕ) Refusal) (s : Said (List ℕ)) → cornered r ≡ s → CornersFit s → Fitting (cells (record { verdict = (cornered r).verdict; values = [] })) × (length (cornered r).values ≡ 3)
+corners-told r s e f = let g : CornersFit (cornered r) = rw e f in ((g.small.0, (g.small.1, tt)), g.corners)

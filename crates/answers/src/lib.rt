@@ -1,138 +1,119 @@
 // The answers of the operations as cells of 32 bits, of one halfedge of 64 bits, which any language can lend.
 #![tactic(auto)]
 
-ghost use Rattle.std.specs.Prelude.{◌≡◌, ◌<◌, [], ◌∷◌, IfOk, length};
+ghost use Rattle.std.specs.Prelude.{◌≡◌, ◌<◌, [], ◌∷◌, length};
 ghost use Rattle.halfedges.specs.Refusals.{told};
-ghost use Rattle.halfedges.specs.Counts.{counted as counts_counted};
-ghost use Rattle.halfedges.specs.Corners.{cornered};
-ghost use Rattle.tables.specs.Check.{checked as check_checked};
-ghost use Rattle.reading.specs.Reading.{reported};
-ghost use Rattle.writing.specs.Writing.{wrote};
-ghost use Rattle.why.specs.Why.{reason, explains};
-ghost use Rattle.climbing.specs.Halfedge.{asked as halfedge_asked};
-ghost use Rattle.answers.specs.Cells.{cells, length_cells, number_cell, stl_cells, level_numbers, level_cells, clause_cells, halfedge_cells};
+ghost use Rattle.answers.specs.Cells.{cells, length_cells, number_cell, stl_cells, level_numbers, level_cells, halfedge_cells};
 ghost use Rattle.answers.specs.Internal.Fitting.{Fitting, Sevens};
 
+use crate::telling::Tells;
 use climbing::rows::Cells;
 use halfedges::refusal::Refusal;
 use halfedges::table::Levels;
-use reading::Reading;
-use tables::check::Checked;
-use why::Why;
+
+pub mod telling;
 
 // Number, place, H, E, F, V and B.
-pub fn of_check(checked: Result<Checked, Refusal>) -> [u32; 7]
-    requires { Fitting (cells (check_checked checked)) }
-    ensures { result ≡ cells (check_checked checked) }
+pub fn of_check<C: Tells<[usize; 5]>>(checked: C) -> [u32; 7]
+    requires { Fitting (cells (C.said checked)) }
+    ensures { result ≡ cells (C.said checked) }
 {
-    match checked {
-        Ok(checked) => [
-            0,
-            0,
-            checked.halfedges as u32,
-            checked.edges as u32,
-            checked.triangles as u32,
-            checked.vertices as u32,
-            checked.borders as u32,
-        ],
-        Err(refusal) => [
-            refusal.number() as u32,
-            refusal.place() as u32,
-            0,
-            0,
-            0,
-            0,
-            0,
-        ],
-    }
+    let (verdict, numbers) = checked.tell();
+    of_five(verdict, numbers)
 }
 
 // Number, place and the three corners.
-pub fn of_corners(corners: Result<[u32; 3], Refusal>) -> [u32; 5]
-    requires { Fitting (cells (record { verdict = told corners; values = [] })) × IfOk corners (λ c. length c ≡ 3) }
-    ensures { result ≡ cells (cornered corners) }
+pub fn of_corners<C: Tells<[u32; 3]>>(corners: C) -> [u32; 5]
+    requires { Fitting (cells (record { verdict = (C.said corners).verdict; values = [] }))
+        × (length (C.said corners).values ≡ 3) }
+    ensures { result ≡ cells (C.said corners) }
 {
-    match corners {
-        Ok(corners) => [0, 0, corners[0], corners[1], corners[2]],
-        Err(refusal) => [refusal.number() as u32, refusal.place() as u32, 0, 0, 0],
-    }
+    let (verdict, numbers) = corners.tell();
+    let [first, second, third] = numbers;
+    let number = number_of(verdict);
+    let place = place_of(verdict) as u32;
+    [number, place, first, second, third]
 }
 
 // Number, place, form, H, V, E and weight.
-pub fn of_reading(read: Result<Reading, Refusal>) -> [u32; 7]
-    requires { Fitting (cells (reported read)) }
-    ensures { result ≡ cells (reported read) }
+pub fn of_reading<R: Tells<[usize; 5]>>(read: R) -> [u32; 7]
+    requires { Fitting (cells (R.said read)) }
+    ensures { result ≡ cells (R.said read) }
 {
-    match read {
-        Ok(read) => [
-            0,
-            0,
-            u32::from(read.form),
-            read.halfedges as u32,
-            read.vertices as u32,
-            read.edges as u32,
-            u32::from(read.weight),
-        ],
-        Err(refusal) => [
-            refusal.number() as u32,
-            refusal.place() as u32,
-            0,
-            0,
-            0,
-            0,
-            0,
-        ],
-    }
+    let (verdict, numbers) = read.tell();
+    of_five(verdict, numbers)
 }
 
 // Number, place and the file's length.
-pub fn of_writing(written: Result<usize, Refusal>) -> [u32; 3]
-    requires { Fitting (length_cells (wrote written)) }
-    ensures { result ≡ length_cells (wrote written) }
+pub fn of_writing<W: Tells<usize>>(written: W) -> [u32; 3]
+    requires { Fitting (length_cells (W.said written)) }
+    ensures { result ≡ length_cells (W.said written) }
 {
-    match written {
-        Ok(length) => [0, 0, length as u32],
-        Err(refusal) => [refusal.number() as u32, refusal.place() as u32, 0],
-    }
+    let (verdict, length) = written.tell();
+    [number_of(verdict), place_of(verdict) as u32, length as u32]
 }
 
 // Number, place, and the clause with its three numbers.
-pub fn of_why(why: Result<(), Why>) -> [u32; 6]
-    requires { Fitting (cells (record { verdict = (explains why).verdict; values = [] })) }
-    ensures { result ≡ clause_cells (explains why) }
+pub fn of_why<W: Tells<[u32; 4]>>(why: W) -> [u32; 6]
+    requires { Fitting (cells (record { verdict = (W.said why).verdict; values = [] })) }
+    ensures { result ≡ cells (W.said why) }
 {
-    match why {
-        Ok(_) => [0; 6],
-        Err(why) => of_reason(why),
-    }
-}
-
-// The same of a cage that is sent back.
-fn of_reason(why: Why) -> [u32; 6]
-    requires { Fitting (cells (record { verdict = (reason why).verdict; values = [] })) }
-    ensures { result ≡ clause_cells (reason why) }
-{
-    let refusal = why.refusal();
-    let number = refusal.number() as u32;
-    let place = refusal.place() as u32;
-    let [clause, first, second, third] = why.numbers();
+    let (verdict, numbers) = why.tell();
+    let [clause, first, second, third] = numbers;
+    let number = number_of(verdict);
+    let place = place_of(verdict) as u32;
     [number, place, clause, first, second, third]
 }
 
 // Number, place, TWIN, VERT and EDGE, in cells of 64 bits, which a place of any halfedge fits.
-pub fn of_halfedge(asked: Result<Cells, Refusal>) -> [u64; 5]
-    ensures { result ≡ halfedge_cells (halfedge_asked asked) }
+pub fn of_halfedge<A: Tells<Cells>>(asked: A) -> [u64; 5]
+    ensures { result ≡ halfedge_cells (A.said asked) }
 {
-    match asked {
-        Ok(cells) => [
-            0,
-            0,
-            cells.twin as u64,
-            cells.vert as u64,
-            cells.edge as u64,
-        ],
-        Err(refusal) => [refusal.number() as u64, refusal.place() as u64, 0, 0, 0],
+    let (verdict, cells) = asked.tell();
+    [
+        number_of(verdict) as u64,
+        place_of(verdict) as u64,
+        cells.twin as u64,
+        cells.vert as u64,
+        cells.edge as u64,
+    ]
+}
+
+// The number of what is told, 0 of done: none is too large for a cell.
+fn number_of(verdict: Result<(), Refusal>) -> u32
+    ensures { result ≡ (told verdict).number }
+{
+    match verdict {
+        Ok(_) => 0,
+        Err(refusal) => refusal.number() as u32,
     }
+}
+
+// And its place, 0 of done.
+fn place_of(verdict: Result<(), Refusal>) -> usize
+    ensures { result ≡ (told verdict).place }
+{
+    match verdict {
+        Ok(_) => 0,
+        Err(refusal) => refusal.place(),
+    }
+}
+
+// Number, place and five numbers.
+fn of_five(verdict: Result<(), Refusal>, numbers: [usize; 5]) -> [u32; 7]
+    requires { Fitting (cells (record { verdict = told verdict; values = numbers })) }
+    ensures { result ≡ cells (record { verdict = told verdict; values = numbers }) }
+{
+    let [first, second, third, fourth, fifth] = numbers;
+    [
+        number_of(verdict),
+        place_of(verdict) as u32,
+        first as u32,
+        second as u32,
+        third as u32,
+        fourth as u32,
+        fifth as u32,
+    ]
 }
 
 // A number as a cell: one that does not fit is told as the largest that does.
@@ -146,14 +127,16 @@ pub fn number_cell(number: usize) -> u32
 }
 
 // Number, place and the length of an STL file.
-pub fn of_stl(written: Result<usize, Refusal>) -> [u32; 3]
-    requires { (wrote written).values < 4294967296 }
-    ensures { result ≡ stl_cells (wrote written) }
+pub fn of_stl<W: Tells<usize>>(written: W) -> [u32; 3]
+    requires { (W.said written).values < 4294967296 }
+    ensures { result ≡ stl_cells (W.said written) }
 {
-    match written {
-        Ok(bytes) => [0, 0, bytes as u32],
-        Err(refusal) => [refusal.number() as u32, number_cell(refusal.place()), 0],
-    }
+    let (verdict, bytes) = written.tell();
+    [
+        number_of(verdict),
+        number_cell(place_of(verdict)),
+        bytes as u32,
+    ]
 }
 
 // Seven numbers as cells.
@@ -173,18 +156,12 @@ fn of_seven(numbers: [usize; 7]) -> [u32; 7]
 }
 
 // Number, place, H, E and V of the seven levels, and the three rooms.
-pub fn of_counts(counted: Result<Levels, Refusal>) -> [u32; 26]
-    requires { IfOk counted Sevens × Fitting (level_cells (counts_counted counted)) }
-    ensures { result ≡ level_cells (counts_counted counted) }
+pub fn of_counts<C: Tells<Levels>>(counted: C) -> [u32; 26]
+    requires { Sevens (C.said counted).values × Fitting (level_cells (C.said counted)) }
+    ensures { result ≡ level_cells (C.said counted) }
 {
-    match counted {
-        Ok(levels) => of_levels(0, 0, levels),
-        Err(refusal) => of_levels(
-            refusal.number() as u32,
-            refusal.place() as u32,
-            Levels::none(),
-        ),
-    }
+    let (verdict, levels) = counted.tell();
+    of_levels(number_of(verdict), place_of(verdict) as u32, levels)
 }
 
 // The same of a number, a place and levels.

@@ -2,6 +2,7 @@
 ghost use Rattle.std.specs.Prelude.{◌≡◌, ◌+◌, ◌*◌, ◌<◌, ◌≤◌};
 ghost use Rattle.halfedges.specs.Internal.Counts.{AtMost};
 ghost use Rattle.splitting.specs.Internal.InPlace.{most_small};
+ghost use Rattle.climbing.specs.Halfedge.{no_cells};
 ghost use Rattle.climbing.specs.Internal.Climbing.{ancestor as climbing_ancestor, child as climbing_child, outer, inner, inside as climbing_inside, SmallCells};
 
 use halfedges::table::HalfedgeTable;
@@ -14,6 +15,19 @@ pub struct Cells {
     pub twin: u32,
     pub vert: u32,
     pub edge: u32,
+}
+
+impl Cells {
+    // Of a refusal.
+    pub fn none() -> Cells
+        ensures { result ≡ no_cells }
+    {
+        Cells {
+            twin: 0,
+            vert: 0,
+            edge: 0,
+        }
+    }
 }
 
 // The halfedge of the level before, of so many, that a new one's row looks at: h for 3h and 3h+1, PREV(h) for 3h+2 and 3H+h.

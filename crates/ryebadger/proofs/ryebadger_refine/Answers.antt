@@ -1,5 +1,4 @@
 -- `ryebadger_refine` puts the answer of refining by the weight of its number in cells, which it fits, and leaves what that leaves.
-use Rattle.std.specs.Prelude.{IfOk}
 use mathlib.Core.Path.{◌≡◌, ap, ◌∙◌}
 use Rattle.halfedges.specs.Counts.{counted}
 use Rattle.tables.specs.Tables.{tables}
@@ -27,7 +26,7 @@ module _ (r : After-refine-counted) where
       s.args.places.now
       s.args.seams.now
 
-  fits : IfOk r.refine-counted.result Sevens × Fitting (level_cells (counted r.refine-counted.result))
+  fits : Sevens (counted r.refine-counted.result).values × Fitting (level_cells (counted r.refine-counted.result))
   fits = levels-told r.refine-counted.result (after n.from-chosen.result).answer r.refine-counted.ensures.0 (refine_fits _ _ _ _ _ _ _ _)
 
   put : level_cells (counted r.refine-counted.result) ≡ level_cells (after (weight_of s.args.weight)).answer
