@@ -133,5 +133,7 @@ pub fn copy<T: Copy>(from: &[T], to: &mut [T])
     requires { length from.now ≤ length to.old }
     ensures { to.new ≡ in_front from.now to.old }
 {
-    to[..from.len()].copy_from_slice(from);
+    for place in 0..from.len() {
+        to[place] = from[place];
+    }
 }

@@ -28,5 +28,5 @@ pub fn copy_creases(file: &[u8], at: usize, creases: &mut [u8], count: usize)
     requires { (at + count ≤ length file.now) × (count ≤ length creases.old) }
     ensures { creases.new ≡ in_front (tabulate count (λ e. get_or file.now (at + e) 0)) creases.old }
 {
-    creases[..count].copy_from_slice(&file[at..at + count]);
+    numbers::copy_each(creases, count, |e| file[at + e]);
 }

@@ -66,7 +66,7 @@ fn put_bytes(part: &mut [u8], bytes: &[u8])
     requires { length bytes.now ≤ length part.old }
     ensures { part.new ≡ in_front bytes.now part.old }
 {
-    part[..bytes.len()].copy_from_slice(bytes);
+    numbers::copy_each(part, bytes.len(), |place| bytes[place]);
 }
 
 // The first field. Answers where the next head goes.
