@@ -8,6 +8,7 @@ ghost use Rattle.answers.specs.Internal.Fitting.{Fitting, Sevens};
 
 use crate::telling::Tells;
 use climbing::rows::Cells;
+use halfedges::refusal;
 use halfedges::refusal::Refusal;
 use halfedges::table::Levels;
 
@@ -31,7 +32,7 @@ pub fn of_corners<C: Tells<[u32; 3]>>(corners: C) -> [u32; 5]
     let (verdict, numbers) = corners.tell();
     let [first, second, third] = numbers;
     let number = number_of(verdict);
-    let place = place_of(verdict) as u32;
+    let place = refusal::place(&verdict) as u32;
     [number, place, first, second, third]
 }
 
@@ -50,7 +51,11 @@ pub fn of_writing<W: Tells<usize>>(written: W) -> [u32; 3]
     ensures { result ≡ length_cells (W.said written) }
 {
     let (verdict, length) = written.tell();
-    [number_of(verdict), place_of(verdict) as u32, length as u32]
+    [
+        number_of(verdict),
+        refusal::place(&verdict) as u32,
+        length as u32,
+    ]
 }
 
 // Number, place, and the clause with its three numbers.
@@ -61,7 +66,7 @@ pub fn of_why<W: Tells<[u32; 4]>>(why: W) -> [u32; 6]
     let (verdict, numbers) = why.tell();
     let [clause, first, second, third] = numbers;
     let number = number_of(verdict);
-    let place = place_of(verdict) as u32;
+    let place = refusal::place(&verdict) as u32;
     [number, place, clause, first, second, third]
 }
 
@@ -72,7 +77,7 @@ pub fn of_halfedge<A: Tells<Cells>>(asked: A) -> [u64; 5]
     let (verdict, cells) = asked.tell();
     [
         number_of(verdict) as u64,
-        place_of(verdict) as u64,
+        refusal::place(&verdict) as u64,
         cells.twin as u64,
         cells.vert as u64,
         cells.edge as u64,
@@ -89,16 +94,6 @@ fn number_of(verdict: Result<(), Refusal>) -> u32
     }
 }
 
-// And its place, 0 of done.
-fn place_of(verdict: Result<(), Refusal>) -> usize
-    ensures { result ≡ (told verdict).place }
-{
-    match verdict {
-        Ok(_) => 0,
-        Err(refusal) => refusal.place(),
-    }
-}
-
 // Number, place and five numbers.
 fn of_five(verdict: Result<(), Refusal>, numbers: [usize; 5]) -> [u32; 7]
     requires { Fitting (cells (record { verdict = told verdict; values = numbers })) }
@@ -107,7 +102,7 @@ fn of_five(verdict: Result<(), Refusal>, numbers: [usize; 5]) -> [u32; 7]
     let [first, second, third, fourth, fifth] = numbers;
     [
         number_of(verdict),
-        place_of(verdict) as u32,
+        refusal::place(&verdict) as u32,
         first as u32,
         second as u32,
         third as u32,
@@ -134,7 +129,7 @@ pub fn of_stl<W: Tells<usize>>(written: W) -> [u32; 3]
     let (verdict, bytes) = written.tell();
     [
         number_of(verdict),
-        number_cell(place_of(verdict)),
+        number_cell(refusal::place(&verdict)),
         bytes as u32,
     ]
 }
@@ -161,7 +156,7 @@ pub fn of_counts<C: Tells<Levels>>(counted: C) -> [u32; 26]
     ensures { result ≡ level_cells (C.said counted) }
 {
     let (verdict, levels) = counted.tell();
-    of_levels(number_of(verdict), place_of(verdict) as u32, levels)
+    of_levels(number_of(verdict), refusal::place(&verdict) as u32, levels)
 }
 
 // The same of a number, a place and levels.

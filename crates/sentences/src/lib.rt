@@ -64,7 +64,7 @@ fn shown(place: usize, clause: [u32; 4]) -> [usize; 5]
     ]
 }
 
-// One of a rule's three texts, by the clause's number in its own rule: a text is promised for each refusal with each clause.
+// One of a rule's three texts, by the clause's number in its own rule: a text is promised for each answer with any four numbers.
 fn put_clause(
     out: &mut [u8],
     place: usize,

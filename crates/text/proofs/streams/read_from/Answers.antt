@@ -1,3 +1,4 @@
+-- What `read_from` has filled is what the source has handed over, since each turn adds the bytes of one read.
 use Rattle.std.proofs.Common.{◌≡◌, ℕ, ◌+◌, ◌≤◌, List, ◌++◌, rules, length, take, sym, ap, ap₂, ◌∙◌, subst, le_refl, drop_at, length-take-le}
 use lib.Seq.{take-add, take-append-le}
 use borrow.Rule.Slice.PartMut.{put_mid, post_of}
