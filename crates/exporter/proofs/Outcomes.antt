@@ -70,6 +70,7 @@ module _ (f : List ℕ) (c : Checked) (e : checked (Ok c) ≡ check_file f) wher
         let head : stl_head c.triangles ≡ opening f = rw (there, F_is) in
         record {
           status = ap status_number o.status ∙ ap (λ a. a.status) (reply_answered f level_stl (accepts f c e));
+          answered = o.status;
           text = o.text ∙ ap (λ b. in_front b before) head;
           ends = o.ends ∙ ap length head;
           corners = rw (there, o.halfedges) t.corners;
@@ -95,6 +96,7 @@ module _ {before after vert : List ℕ} {points : List ℤ} {w : Written} where
       let line : (refused (refused_as q)).text ≡ opening f = rw (there, ← e) in
       record {
         status = p.status ∙ ap (λ a. a.status) (reply_refused f level_stl m);
+        answered = tt;
         text = p.put.bytes ∙ ap (λ b. in_front b before) line;
         ends = omega (arith, p.put.ends, ap length line);
         corners = rw there;

@@ -1,5 +1,5 @@
 -- Document 02, §2 "STL out to the mill": what the disk program puts out for a file's bytes.
-use Rattle.std.specs.Prelude.{ℕ, ◌≡◌, List, [], ℤ, Result, Ok, Err, length, take}
+use Rattle.std.specs.Prelude.{ℕ, ◌≡◌, List, [], ℤ, Result, Ok, Err, IfOk, length, take}
 use Rattle.laws.specs.Below.{end_to_end}
 use Rattle.laws.specs.Parts.{in_front}
 use Rattle.halfedges.specs.Cage.{F}
@@ -7,6 +7,7 @@ use Rattle.halfedges.specs.Refusals.{when_done}
 use Rattle.tables.specs.Tables.{Tables}
 use Rattle.filechecks.specs.Contents.{cage_in}
 use Rattle.text.specs.declared.replies.Status.{Status}
+use Rattle.text.specs.declared.replies.Status.TheVariants.{Answered}
 use Rattle.text.specs.declared.replies.Written.{Written}
 use Rattle.text.specs.Replies.{Reply, refused, status_number}
 use Rattle.intake.specs.Intake.{check_file, file_reply}
@@ -49,9 +50,10 @@ lengths_of (Ok o) = o
 lengths_of (Err w) = record { status = w.status; length = w.length; halfedges = 0; coordinates = 0 }
 
 -- the opening stands in front of what the lent text held, and VERT and points of the facets at the fronts of their tables; its length,
--- the status and the lengths of both are told
+-- the status and the lengths of both are told, and `Ok` tells an answer
 pub record Opens (f before after vert : List ℕ) (points : List ℤ) (told : Result Opened Written) : Type 0 where
   pub status : status_number (status_of told) ≡ (exporting f).status
+  pub answered : IfOk told (λ o. o.status ≡ Answered)
   pub text : after ≡ in_front (opening f) before
   pub ends : (lengths_of told).length ≡ length (opening f)
   pub corners : take (lengths_of told).halfedges vert ≡ corners_out f
